@@ -1,0 +1,5 @@
+pub mod Counts
+pub mod Members
+pub mod Laws
+pub mod RecordSteps
+pub mod GridSteps

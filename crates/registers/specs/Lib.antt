@@ -1,0 +1,5 @@
+pub mod Facts
+pub mod Numbers
+pub mod Meaning
+pub mod Grid
+pub mod Records

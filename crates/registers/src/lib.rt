@@ -1,0 +1,6 @@
+// Registers: sets of facts with a limit, in two makes behind one trait.
+pub mod fact;
+pub mod grid;
+pub mod record_list;
+pub mod refusal;
+pub mod register;

@@ -1,5 +1,7 @@
 pub mod Counts
 pub mod Members
 pub mod Laws
+pub mod ListLaws
+pub mod CallLaws
 pub mod RecordSteps
 pub mod GridSteps

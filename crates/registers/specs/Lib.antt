@@ -3,3 +3,4 @@ pub mod Numbers
 pub mod Meaning
 pub mod Grid
 pub mod Records
+pub mod Calls

@@ -4,7 +4,7 @@ ghost use lib.Dec.{ltb};
 ghost use lib.ListN.{length, take, getD};
 ghost use denote.Ref.{now};
 ghost use Rattle.registers.specs.Facts.{countOf};
-ghost use Rattle.registers.specs.Meaning.{emptyOf};
+ghost use Rattle.registers.specs.Meaning.{emptyOf, has, sizeOf};
 ghost use Rattle.registers.specs.Records.{listed, listMeaning};
 ghost use Rattle.registers.specs.declared.fact.Fact.{Fact};
 use crate::fact::Fact;
@@ -31,6 +31,14 @@ impl<'a> RecordList<'a> {
         ensures kept { λ r. ⌜ now (r .table) ≡ now (table .entry) ⌝ }
     {
         RecordList { table, len: 0 }
+    }
+
+    // The records in use: each fact held, once, in any order.
+    pub fn records(&self) -> &[Fact]
+        ensures each { λ r. ⌜ ((f : Fact) → listed (now r) (f .predicate) (f .first) (f .second) ≡ has (listMeaning (now (now (self .entry) .table)) (now (self .entry) .len)) f) ⌝ }
+        ensures once { λ r. ⌜ length (now r) ≡ sizeOf (listMeaning (now (now (self .entry) .table)) (now (self .entry) .len)) ⌝ }
+    {
+        &self.table[0..self.len]
     }
 
     // Where the fact stands among the records, or their number.

@@ -13,9 +13,9 @@ use Rattle.goals.specs.declared.file_fault.FrameFault.the-variants.{Mark, Leng
 use Rattle.goals.specs.Bytes.{byteAt, wordAt}
 
 -- the mark, the three letters E, D and P, and the version 1, in the first five bytes
-unfoldable pub marked : List ℕ → Bool
+abbrev pub marked : List ℕ → Bool
 marked file =
-    (leb 5 (length file) && (eqb (byteAt file 0) 69 && (eqb (byteAt file 1) 68 && eqb (byteAt file 2) 80))) && eqb (wordAt file 3) 1
+    leb 5 (length file) && (eqb (byteAt file 0) 69 && (eqb (byteAt file 1) 68 && (eqb (byteAt file 2) 80 && eqb (wordAt file 3) 1)))
 
 -- where n predicates that begin at a place end: each has its places, the length of its name, and the name
 unfoldable pub predicatesEnd : List ℕ → ℕ → ℕ → ℕ

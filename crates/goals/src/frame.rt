@@ -30,7 +30,7 @@ pub struct Frame {
 }
 
 // Reads the frame: the mark and the version, then the length against the counts.
-pub fn frame(file: &[u8]) -> Result<Frame, FrameFault>
+pub fn read_frame(file: &[u8]) -> Result<Frame, FrameFault>
     ensures { λ r. ⌜ r ≡ framed (now (file .entry)) ⌝ }
 {
     if !is_marked(file) {
@@ -52,8 +52,7 @@ pub fn frame(file: &[u8]) -> Result<Frame, FrameFault>
 fn is_marked(file: &[u8]) -> bool
     ensures { λ r. ⌜ r ≡ marked (now (file .entry)) ⌝ }
 {
-    let has_mark = file.len() >= 5 && (byte_at(file, 0) == b'E' && (byte_at(file, 1) == b'D' && byte_at(file, 2) == b'P'));
-    has_mark && word_at(file, 3) == 1
+    file.len() >= 5 && (byte_at(file, 0) == b'E' && (byte_at(file, 1) == b'D' && (byte_at(file, 2) == b'P' && word_at(file, 3) == 1)))
 }
 
 // The frame by the counts as they stand.
@@ -90,7 +89,7 @@ fn end_of_predicates(file: &[u8], count: u8) -> usize
     ensures bound { λ r. ⌜ r ≤ 14 + 257 * count ⌝ }
 {
     let mut at = PREDICATES_AT;
-    for _i in 0..count {
+    for _ in 0..count {
         at += 2 + usize::from(byte_at(file, at + 1));
     }
     at
@@ -102,7 +101,7 @@ fn end_of_operations(file: &[u8], count: u8, start: usize) -> usize
     ensures bound { λ r. ⌜ r ≤ start + 2301 * count ⌝ }
 {
     let mut at = start;
-    for _i in 0..count {
+    for _ in 0..count {
         at += 6 + 3 * entries(file, at);
     }
     at

@@ -1,4 +1,4 @@
 // Edition files: their frame, the facts in them, and filling a register with those facts.
-pub mod bytes;
+mod bytes;
 pub mod file_fault;
 pub mod frame;

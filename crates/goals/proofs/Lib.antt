@@ -1,1 +1,2 @@
 pub mod FrameSteps
+pub mod FillSteps

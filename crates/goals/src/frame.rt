@@ -84,7 +84,7 @@ fn walk(file: &[u8]) -> Frame
     }
 }
 
-fn end_of_predicates(file: &[u8], count: u8) -> usize
+pub(crate) fn end_of_predicates(file: &[u8], count: u8) -> usize
     ensures value { λ r. ⌜ r ≡ predicatesEnd (now (file .entry)) count 14 ⌝ }
     ensures bound { λ r. ⌜ r ≤ 14 + 257 * count ⌝ }
 {

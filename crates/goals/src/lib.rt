@@ -1,4 +1,6 @@
 // Edition files: their frame, the facts in them, and filling a register with those facts.
 mod bytes;
+pub mod facts;
 pub mod file_fault;
+pub mod fill;
 pub mod frame;

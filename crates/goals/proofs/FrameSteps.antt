@@ -88,9 +88,9 @@ pub record Accepted (file : List ℕ) (f : Frame) : Type 0 where
 accepted-by : (file : List ℕ) (f : Frame) (a b c d : Bool) → marked file ≡ a → ltb 40000 (length file) ≡ b →
     ltb (length file) (frameOf file .end) ≡ c → ltb (frameOf file .end) (length file) ≡ d →
     _≡_ {A = Result Frame FrameFault} (Ok f)
-      (cond a
-        (cond b (Err (Length 40000)) (cond c (Err (Length (length file))) (cond d (Err (Length (frameOf file .end))) (Ok (frameOf file)))))
-        (Err Mark)) →
+    (cond a
+    (cond b (Err (Length 40000)) (cond c (Err (Length (length file))) (cond d (Err (Length (frameOf file .end))) (Ok (frameOf file)))))
+    (Err Mark)) →
     Accepted file f
 accepted-by file f false b c d ea eb ec ed e = let z : _≡_ {A = ℕ} 0 1 = cc in absurd (omega arith)
 accepted-by file f true true c d ea eb ec ed e = let z : _≡_ {A = ℕ} 0 1 = cc in absurd (omega arith)
@@ -98,12 +98,12 @@ accepted-by file f true false true d ea eb ec ed e = let z : _≡_ {A = ℕ} 0 1
 accepted-by file f true false false true ea eb ec ed e = let z : _≡_ {A = ℕ} 0 1 = cc in absurd (omega arith)
 accepted-by file f true false false false ea eb ec ed e =
     let q : f ≡ frameOf file = cc in
-    record
-      { mark = ea
-      ; frame = q
-      ; short = ltb-false 40000 (length file) eb
-      ; whole = ap (λ x. x .end) q ∙ (let w : frameOf file .end ≡ length file = omega (arith, ltb-false _ _ ec, ltb-false _ _ ed) in w)
-      }
+    record {
+      mark = ea;
+      frame = q;
+      short = ltb-false 40000 (length file) eb;
+      whole = ap (λ x. x .end) q ∙ (let w : frameOf file .end ≡ length file = omega (arith, ltb-false _ _ ec, ltb-false _ _ ed) in w);
+    }
 
 pub accepted : (file : List ℕ) (f : Frame) → Ok f ≡ framed file → Accepted file f
 unfolding framed lengthChecked

@@ -36,19 +36,19 @@ frameOf file =
     let facts-at : ℕ = operationsEnd file (byteAt file 7) operations-at in
     let goal-at : ℕ = facts-at + 3 * wordAt file 8 in
     let steps-at : ℕ = goal-at + wordAt file 10 in
-    record
-      { ids = byteAt file 5
-      ; predicates = byteAt file 6
-      ; operations = byteAt file 7
-      ; facts = wordAt file 8
-      ; «goal_length» = wordAt file 10
-      ; steps = wordAt file 12
-      ; «operations_at» = operations-at
-      ; «facts_at» = facts-at
-      ; «goal_at» = goal-at
-      ; «steps_at» = steps-at
-      ; end = steps-at + 4 * wordAt file 12
-      }
+    record {
+      ids = byteAt file 5;
+      predicates = byteAt file 6;
+      operations = byteAt file 7;
+      facts = wordAt file 8;
+      «goal_length» = wordAt file 10;
+      steps = wordAt file 12;
+      «operations_at» = operations-at;
+      «facts_at» = facts-at;
+      «goal_at» = goal-at;
+      «steps_at» = steps-at;
+      end = steps-at + 4 * wordAt file 12;
+    }
 
 -- a file of more than 40,000 bytes is at fault at 40,000; one that ends before its last section, at its end; one that goes
 -- on, at the first byte behind it

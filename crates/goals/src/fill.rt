@@ -52,7 +52,8 @@ fn is_declared(file: &[u8], frame: Frame, fact: Fact) -> bool
 {
     let places = byte_at(file, end_of_predicates(file, fact.predicate));
     fact.predicate < frame.predicates
-        && (id_fits(places >= 1, frame.ids, fact.first) && id_fits(places >= 2, frame.ids, fact.second))
+        && (id_fits(places >= 1, frame.ids, fact.first)
+            && id_fits(places >= 2, frame.ids, fact.second))
 }
 
 fn id_fits(used: bool, ids: u8, id: u16) -> bool

@@ -52,7 +52,9 @@ pub fn read_frame(file: &[u8]) -> Result<Frame, FrameFault>
 fn is_marked(file: &[u8]) -> bool
     ensures { λ r. ⌜ r ≡ marked (now (file .entry)) ⌝ }
 {
-    file.len() >= 5 && (byte_at(file, 0) == b'E' && (byte_at(file, 1) == b'D' && (byte_at(file, 2) == b'P' && word_at(file, 3) == 1)))
+    file.len() >= 5
+        && (byte_at(file, 0) == b'E'
+            && (byte_at(file, 1) == b'D' && (byte_at(file, 2) == b'P' && word_at(file, 3) == 1)))
 }
 
 // The frame by the counts as they stand.

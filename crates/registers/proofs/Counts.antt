@@ -25,15 +25,15 @@ sum-change zero i f g l h = absurd (omega arith)
 sum-change (suc n) i f g l h =
     ⊎-elim
     (λ (e : n ≡ i).
-      let r : sumBelow n f ≡ sumBelow n g = sum-same n f g (λ k lt. h k (omega arith)) in
-      let a : f n ≡ f i = ap f e in
-      let b : g n ≡ g i = ap g e in
-      omega arith)
+    let r : sumBelow n f ≡ sumBelow n g = sum-same n f g (λ k lt. h k (omega arith)) in
+    let a : f n ≡ f i = ap f e in
+    let b : g n ≡ g i = ap g e in
+    omega arith)
     (λ (ne : n ≡ i → ⊥).
-      let lt : i < n = omega arith in
-      let r : sumBelow n f + g i ≡ sumBelow n g + f i = sum-change n i f g lt h in
-      let s : f n ≡ g n = h n ne in
-      omega arith)
+    let lt : i < n = omega arith in
+    let r : sumBelow n f + g i ≡ sumBelow n g + f i = sum-change n i f g lt h in
+    let s : f n ≡ g n = h n ne in
+    omega arith)
     (cases-eq n i)
 
 pub sum-none : (n : ℕ) → sumBelow n (λ k. 0) ≡ 0
@@ -65,16 +65,16 @@ count-changed h p a b v f =
     let lb : b < 128 = ltb-true b 128 (fab .1) in
     let here : one (changed h p a b v p a b) ≡ one v = ap one (changed-here h p a b v) in
     let e3 : sumBelow 128 (λ y. one (changed h p a b v p a y)) + one (h p a b) ≡ sumBelow 128 (λ y. one (h p a y)) + one (changed h p a b v p a b)
-           = sum-change 128 b (λ y. one (changed h p a b v p a y)) (λ y. one (h p a y)) lb (λ y ne. ap one (changed-b h p a b v p a y ne)) in
+    = sum-change 128 b (λ y. one (changed h p a b v p a y)) (λ y. one (h p a y)) lb (λ y ne. ap one (changed-b h p a b v p a y ne)) in
     let e2 : sumBelow 128 (λ x. sumBelow 128 (λ y. one (changed h p a b v p x y))) + sumBelow 128 (λ y. one (h p a y))
-           ≡ sumBelow 128 (λ x. sumBelow 128 (λ y. one (h p x y))) + sumBelow 128 (λ y. one (changed h p a b v p a y))
-           = sum-change 128 a (λ x. sumBelow 128 (λ y. one (changed h p a b v p x y))) (λ x. sumBelow 128 (λ y. one (h p x y))) la
-             (λ x ne. sum-same 128 (λ y. one (changed h p a b v p x y)) (λ y. one (h p x y)) (λ y l. ap one (changed-a h p a b v p x y ne))) in
+    ≡ sumBelow 128 (λ x. sumBelow 128 (λ y. one (h p x y))) + sumBelow 128 (λ y. one (changed h p a b v p a y))
+    = sum-change 128 a (λ x. sumBelow 128 (λ y. one (changed h p a b v p x y))) (λ x. sumBelow 128 (λ y. one (h p x y))) la
+    (λ x ne. sum-same 128 (λ y. one (changed h p a b v p x y)) (λ y. one (h p x y)) (λ y l. ap one (changed-a h p a b v p x y ne))) in
     let e1 : sumBelow 16 (λ q. sumBelow 128 (λ x. sumBelow 128 (λ y. one (changed h p a b v q x y)))) + sumBelow 128 (λ x. sumBelow 128 (λ y. one (h p x y)))
-           ≡ sumBelow 16 (λ q. sumBelow 128 (λ x. sumBelow 128 (λ y. one (h q x y)))) + sumBelow 128 (λ x. sumBelow 128 (λ y. one (changed h p a b v p x y)))
-           = sum-change 16 p (λ q. sumBelow 128 (λ x. sumBelow 128 (λ y. one (changed h p a b v q x y)))) (λ q. sumBelow 128 (λ x. sumBelow 128 (λ y. one (h q x y)))) lp
-             (λ q ne. sum-same 128 (λ x. sumBelow 128 (λ y. one (changed h p a b v q x y))) (λ x. sumBelow 128 (λ y. one (h q x y)))
-               (λ x l. sum-same 128 (λ y. one (changed h p a b v q x y)) (λ y. one (h q x y)) (λ y l2. ap one (changed-p h p a b v q x y ne)))) in
+    ≡ sumBelow 16 (λ q. sumBelow 128 (λ x. sumBelow 128 (λ y. one (h q x y)))) + sumBelow 128 (λ x. sumBelow 128 (λ y. one (changed h p a b v p x y)))
+    = sum-change 16 p (λ q. sumBelow 128 (λ x. sumBelow 128 (λ y. one (changed h p a b v q x y)))) (λ q. sumBelow 128 (λ x. sumBelow 128 (λ y. one (h q x y)))) lp
+    (λ q ne. sum-same 128 (λ x. sumBelow 128 (λ y. one (changed h p a b v q x y))) (λ x. sumBelow 128 (λ y. one (h q x y)))
+    (λ x l. sum-same 128 (λ y. one (changed h p a b v q x y)) (λ y. one (h q x y)) (λ y l2. ap one (changed-p h p a b v q x y ne)))) in
     omega arith
 
 -- facts that agree wherever a fact may be have one count
@@ -82,13 +82,13 @@ pub count-same : (h k : ℕ → ℕ → ℕ → Bool) → ((p a b : ℕ) → inB
 unfolding countOf
 count-same h k e =
     sum-same 16 _ _ (λ p lp. sum-same 128 _ _ (λ a la. sum-same 128 _ _ (λ b lb. ap one (e p a b
-      (and-from (ltb p 16) _ (lt-ltb p 16 lp) (and-from (ltb a 128) _ (lt-ltb a 128 la) (lt-ltb b 128 lb)))))))
+    (and-from (ltb p 16) _ (lt-ltb p 16 lp) (and-from (ltb a 128) _ (lt-ltb a 128 la) (lt-ltb b 128 lb)))))))
 
 pub count-none : countOf (λ p a b. false) ≡ 0
 unfolding countOf
 count-none =
     sum-same 16 (λ p. sumBelow 128 (λ a. sumBelow 128 (λ b. 0))) (λ p. 0)
-      (λ p lp. sum-same 128 (λ a. sumBelow 128 (λ b. 0)) (λ a. 0) (λ a la. sum-none 128) ∙ sum-none 128)
+    (λ p lp. sum-same 128 (λ a. sumBelow 128 (λ b. 0)) (λ a. 0) (λ a la. sum-none 128) ∙ sum-none 128)
     ∙ sum-none 16
 
 pub same-parts : (p a b q x y : ℕ) → sameFact p a b q x y ≡ true → (p ≡ q) × (a ≡ x) × (b ≡ y)
@@ -109,10 +109,10 @@ pub count-out : (h : ℕ → ℕ → ℕ → Bool) (p a b : ℕ) (v : Bool) → 
 count-out h p a b v f =
     count-same (changed h p a b v) h
     (λ q x y k.
-      ⊎-elim
-      (λ (s : sameFact p a b q x y ≡ true). absurd (both-ways (inBounds p a b) f (same-at inBounds p a b q x y s ∙ k)))
-      (λ (s : sameFact p a b q x y ≡ false). cond-false (sameFact p a b q x y) v (h q x y) s)
-      (cases-bool (sameFact p a b q x y)))
+    ⊎-elim
+    (λ (s : sameFact p a b q x y ≡ true). absurd (both-ways (inBounds p a b) f (same-at inBounds p a b q x y s ∙ k)))
+    (λ (s : sameFact p a b q x y ≡ false). cond-false (sameFact p a b q x y) v (h q x y) s)
+    (cases-bool (sameFact p a b q x y)))
 
 pub one-le : (b : Bool) → one b ≤ 1
 one-le true = omega arith

@@ -29,18 +29,18 @@ pow-bit : (b k : ℕ) → 2 ^ b / 2 ^ k % 2 ≡ cond (eqb b k) 1 0
 pow-bit b k =
     ⊎-elim
     (λ (e : b ≡ k).
-      let d : 2 ^ k / 2 ^ k ≡ 1 = ap (λ t. t / 2 ^ k) (sym (one-mul (2 ^ k))) ∙ shl-shr 1 k in
-      ap (λ t. 2 ^ t / 2 ^ k % 2) e ∙ (ap (λ t. t % 2) d ∙ sym (cond-true (eqb b k) 1 0 (eq-eqb b k e))))
+    let d : 2 ^ k / 2 ^ k ≡ 1 = ap (λ t. t / 2 ^ k) (sym (one-mul (2 ^ k))) ∙ shl-shr 1 k in
+    ap (λ t. 2 ^ t / 2 ^ k % 2) e ∙ (ap (λ t. t % 2) d ∙ sym (cond-true (eqb b k) 1 0 (eq-eqb b k e))))
     (⊎-elim
-      (λ (l : b < k).
-        ap (λ t. t % 2) (div-eq-of-lt (pow-below b k l)) ∙ sym (cond-false (eqb b k) 1 0 (ne-eqb b k (λ e. omega arith))))
-      (λ (l : k < b).
-        let d : b ≡ k + suc (b - suc k) = omega arith in
-        ap (λ t. 2 ^ t / 2 ^ k % 2) d
-        ∙ (ap (λ t. t / 2 ^ k % 2) (pow-add 2 k (suc (b - suc k)))
-        ∙ (ap (λ t. t % 2) (mul-div-right (2 ^ suc (b - suc k)) (pow-pos k))
-        ∙ (ap (λ t. t % 2) (pow-suc 2 (b - suc k))
-        ∙ (mul-mod-left (2 ^ (b - suc k)) 2 ∙ sym (cond-false (eqb b k) 1 0 (ne-eqb b k (λ e. omega arith)))))))))
+    (λ (l : b < k).
+    ap (λ t. t % 2) (div-eq-of-lt (pow-below b k l)) ∙ sym (cond-false (eqb b k) 1 0 (ne-eqb b k (λ e. omega arith))))
+    (λ (l : k < b).
+    let d : b ≡ k + suc (b - suc k) = omega arith in
+    ap (λ t. 2 ^ t / 2 ^ k % 2) d
+    ∙ (ap (λ t. t / 2 ^ k % 2) (pow-add 2 k (suc (b - suc k)))
+    ∙ (ap (λ t. t % 2) (mul-div-right (2 ^ suc (b - suc k)) (pow-pos k))
+    ∙ (ap (λ t. t % 2) (pow-suc 2 (b - suc k))
+    ∙ (mul-mod-left (2 ^ (b - suc k)) 2 ∙ sym (cond-false (eqb b k) 1 0 (ne-eqb b k (λ e. omega arith)))))))))
     (cases-order b k)
 
 or-bit : (e : Bool) (x : ℕ) → x < 2 → eqb (bitOr x (cond e 1 0)) 1 ≡ cond e true (eqb x 1)
@@ -107,7 +107,7 @@ ones-sum (suc k) w h =
     let h′ : w < 2 ^ (k + 1) = subst (λ t. w < 2 ^ t) (sym (add-one k)) h in
     let r : ones (w / 2) ≡ sumBelow k (λ b. w / 2 / 2 ^ b % 2) = ones-sum k (w / 2) (shr-below w k 1 h′) in
     let s : sumBelow k (λ b. w / 2 / 2 ^ b % 2) ≡ sumBelow k (λ b. w / 2 ^ suc b % 2)
-          = sum-same k _ _ (λ b l. ap (λ t. t % 2) (shr-shr w 1 b) ∙ ap (λ t. w / 2 ^ t % 2) (one-add b)) in
+    = sum-same k _ _ (λ b l. ap (λ t. t % 2) (shr-shr w 1 b) ∙ ap (λ t. w / 2 ^ t % 2) (one-add b)) in
     let z : w / 2 ^ 0 % 2 ≡ w % 2 = ap (λ t. t % 2) (div-one w) in
     ones-step w ∙ ((let e : w % 2 + ones (w / 2) ≡ w / 2 ^ 0 % 2 + sumBelow k (λ b. w / 2 ^ suc b % 2) = omega arith in e) ∙ sym (sum-cons k (λ b. w / 2 ^ b % 2)))
 
@@ -134,47 +134,47 @@ unfolding gridFacts
 grid-write rows p a b w v f l h =
     by-points (gridFacts (set rows (p * 128 + a) w)) (changed (gridFacts rows) p a b v)
     (λ q x y.
-      ⊎-elim
-      (λ (g : inBounds q x y ≡ true).
-        let fp = bounds-parts p a b f in
-        let gp = bounds-parts q x y g in
-        ⊎-elim
-        (λ (e : q * 128 + x ≡ p * 128 + a).
-          let ep : p ≡ q = omega arith in
-          let ea : a ≡ x = omega arith in
-          ap (λ t. t && bitOf (getD (set rows (p * 128 + a) w) (q * 128 + x) 0) y) g
-          ∙ (ap (λ t. bitOf (getD (set rows (p * 128 + a) w) t 0) y) e
-          ∙ (ap (λ t. bitOf t y) (getD-set-same rows (p * 128 + a) w 0 l)
-          ∙ (h y
-          ∙ (ap (λ t. cond (eqb b y) v (bitOf (getD rows t 0) y)) (sym e)
-          ∙ (ap (λ t. cond t v (bitOf (getD rows (q * 128 + x) 0) y))
-              (sym (ap (λ t. t && (eqb a x && eqb b y)) (eq-eqb p q ep) ∙ ap (λ t. t && eqb b y) (eq-eqb a x ea)))
-          ∙ ap (λ t. cond (sameFact p a b q x y) v (t && bitOf (getD rows (q * 128 + x) 0) y)) (sym g)))))))
-        (λ (e : q * 128 + x ≡ p * 128 + a → ⊥).
-          let ns : sameFact p a b q x y ≡ false
-                 = ⊎-elim
-                   (λ (s : sameFact p a b q x y ≡ true). absurd (let k = same-parts p a b q x y s in e (omega arith)))
-                   (λ (s : sameFact p a b q x y ≡ false). s)
-                   (cases-bool (sameFact p a b q x y)) in
-          ap (λ t. inBounds q x y && bitOf t y) (getD-set-other rows (p * 128 + a) (q * 128 + x) w 0 e)
-          ∙ sym (cond-false (sameFact p a b q x y) v (inBounds q x y && bitOf (getD rows (q * 128 + x) 0) y) ns))
-        (cases-eq (q * 128 + x) (p * 128 + a)))
-      (λ (g : inBounds q x y ≡ false).
-        let ns : sameFact p a b q x y ≡ false
-               = ⊎-elim
-                 (λ (s : sameFact p a b q x y ≡ true). absurd (both-ways (inBounds q x y) g (sym (same-at inBounds p a b q x y s) ∙ f)))
-                 (λ (s : sameFact p a b q x y ≡ false). s)
-                 (cases-bool (sameFact p a b q x y)) in
-        ap (λ t. t && bitOf (getD (set rows (p * 128 + a) w) (q * 128 + x) 0) y) g
-        ∙ (sym (ap (λ t. t && bitOf (getD rows (q * 128 + x) 0) y) g)
-        ∙ sym (cond-false (sameFact p a b q x y) v (inBounds q x y && bitOf (getD rows (q * 128 + x) 0) y) ns)))
-      (cases-bool (inBounds q x y)))
+    ⊎-elim
+    (λ (g : inBounds q x y ≡ true).
+    let fp = bounds-parts p a b f in
+    let gp = bounds-parts q x y g in
+    ⊎-elim
+    (λ (e : q * 128 + x ≡ p * 128 + a).
+    let ep : p ≡ q = omega arith in
+    let ea : a ≡ x = omega arith in
+    ap (λ t. t && bitOf (getD (set rows (p * 128 + a) w) (q * 128 + x) 0) y) g
+    ∙ (ap (λ t. bitOf (getD (set rows (p * 128 + a) w) t 0) y) e
+    ∙ (ap (λ t. bitOf t y) (getD-set-same rows (p * 128 + a) w 0 l)
+    ∙ (h y
+    ∙ (ap (λ t. cond (eqb b y) v (bitOf (getD rows t 0) y)) (sym e)
+    ∙ (ap (λ t. cond t v (bitOf (getD rows (q * 128 + x) 0) y))
+    (sym (ap (λ t. t && (eqb a x && eqb b y)) (eq-eqb p q ep) ∙ ap (λ t. t && eqb b y) (eq-eqb a x ea)))
+    ∙ ap (λ t. cond (sameFact p a b q x y) v (t && bitOf (getD rows (q * 128 + x) 0) y)) (sym g)))))))
+    (λ (e : q * 128 + x ≡ p * 128 + a → ⊥).
+    let ns : sameFact p a b q x y ≡ false
+    = ⊎-elim
+    (λ (s : sameFact p a b q x y ≡ true). absurd (let k = same-parts p a b q x y s in e (omega arith)))
+    (λ (s : sameFact p a b q x y ≡ false). s)
+    (cases-bool (sameFact p a b q x y)) in
+    ap (λ t. inBounds q x y && bitOf t y) (getD-set-other rows (p * 128 + a) (q * 128 + x) w 0 e)
+    ∙ sym (cond-false (sameFact p a b q x y) v (inBounds q x y && bitOf (getD rows (q * 128 + x) 0) y) ns))
+    (cases-eq (q * 128 + x) (p * 128 + a)))
+    (λ (g : inBounds q x y ≡ false).
+    let ns : sameFact p a b q x y ≡ false
+    = ⊎-elim
+    (λ (s : sameFact p a b q x y ≡ true). absurd (both-ways (inBounds q x y) g (sym (same-at inBounds p a b q x y s) ∙ f)))
+    (λ (s : sameFact p a b q x y ≡ false). s)
+    (cases-bool (sameFact p a b q x y)) in
+    ap (λ t. t && bitOf (getD (set rows (p * 128 + a) w) (q * 128 + x) 0) y) g
+    ∙ (sym (ap (λ t. t && bitOf (getD rows (q * 128 + x) 0) y) g)
+    ∙ sym (cond-false (sameFact p a b q x y) v (inBounds q x y && bitOf (getD rows (q * 128 + x) 0) y) ns)))
+    (cases-bool (inBounds q x y)))
 
 pub grid-count : (rows : List ℕ) → countOf (gridFacts rows) ≡ sumBelow 2048 (λ r. bitsOf (getD rows r 0))
 unfolding countOf gridFacts bitsOf
 grid-count rows =
     sum-same 16 _ _ (λ p lp. sum-same 128 _ _ (λ a la. sum-same 128 _ _ (λ b lb.
-      ap one (ap (λ t. t && bitOf (getD rows (p * 128 + a) 0) b) (bounds-from p a b lp la lb)))))
+    ap one (ap (λ t. t && bitOf (getD rows (p * 128 + a) 0) b) (bounds-from p a b lp la lb)))))
     ∙ sum-blocks 16 128 (λ r. sumBelow 128 (λ b. one (bitOf (getD rows r 0) b)))
 
 pub grid-lawful : (rows : List ℕ) (limit : ℕ) → countOf (gridFacts rows) ≤ limit → Lawful (gridMeaning rows limit)
@@ -265,9 +265,9 @@ unfolding gridFacts bitOf
 grid-none n p a b =
     ⊎-elim
     (λ (l : p * 128 + a < n).
-      ap (λ t. inBounds p a b && eqb (t / 2 ^ b % 2) 1) (getD-replicate n (p * 128 + a) 0 0 l) ∙ none-at (inBounds p a b) b)
+    ap (λ t. inBounds p a b && eqb (t / 2 ^ b % 2) 1) (getD-replicate n (p * 128 + a) 0 0 l) ∙ none-at (inBounds p a b) b)
     (λ (l : n ≤ p * 128 + a).
-      ap (λ t. inBounds p a b && eqb (t / 2 ^ b % 2) 1) (getD-past (replicate n 0) (p * 128 + a) 0 (simp length-replicate l)) ∙ none-at (inBounds p a b) b)
+    ap (λ t. inBounds p a b && eqb (t / 2 ^ b % 2) 1) (getD-past (replicate n 0) (p * 128 + a) 0 (simp length-replicate l)) ∙ none-at (inBounds p a b) b)
     (cases-lt (p * 128 + a) n)
 
 pub grid-empty : (n limit : ℕ) → gridMeaning (replicate n 0) limit ≡ emptyOf limit
@@ -284,8 +284,8 @@ unfolding gridMeaning sizeOf has
 grid-room rows limit f cut a h e =
     ⊎-elim
     (λ (k : ltb limit 262144 ≡ false).
-      let l : countOf (gridFacts rows) < 262144 = size-room (gridMeaning rows limit) f a h in
-      omega (arith, l, ltb-false limit 262144 k))
+    let l : countOf (gridFacts rows) < 262144 = size-room (gridMeaning rows limit) f a h in
+    omega (arith, l, ltb-false limit 262144 k))
     (λ (k : leb limit (countOf (gridFacts rows)) ≡ false). leb-false limit (countOf (gridFacts rows)) k)
     (and-cases (ltb limit 262144) _ e)
 

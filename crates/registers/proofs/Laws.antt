@@ -47,11 +47,11 @@ pub changed-same : (h : Facts) (f : Fact) (v : Bool) → h (f .predicate) (f .fi
 changed-same h f v e =
     by-points (changedBy h f v) h
     (λ p a b.
-      ⊎-elim
-      (λ (s : sameOf f p a b ≡ true).
-        cond-true (sameOf f p a b) v (h p a b) s ∙ (sym e ∙ same-at h (f .predicate) (f .first) (f .second) p a b s))
-      (λ (s : sameOf f p a b ≡ false). cond-false (sameOf f p a b) v (h p a b) s)
-      (cases-bool (sameOf f p a b)))
+    ⊎-elim
+    (λ (s : sameOf f p a b ≡ true).
+    cond-true (sameOf f p a b) v (h p a b) s ∙ (sym e ∙ same-at h (f .predicate) (f .first) (f .second) p a b s))
+    (λ (s : sameOf f p a b ≡ false). cond-false (sameOf f p a b) v (h p a b) s)
+    (cases-bool (sameOf f p a b)))
 
 pub including-held : (m : Meaning) (f : Fact) → has m f ≡ true → including m f ≡ m
 unfolding has including

@@ -96,7 +96,7 @@ size-all-le m (f ∷ fs) = omega (arith, size-including-le m f, size-all-le (inc
 pub size-part-le : (m : Meaning) (fs : List Fact) (k : ℕ) → sizeOf (includingAll m (take k fs)) ≤ sizeOf (includingAll m fs)
 size-part-le m fs k =
     let e : includingAll m fs ≡ includingAll (includingAll m (take k fs)) (drop k fs)
-          = ap (includingAll m) (sym (take-append-drop k fs)) ∙ including-append m (take k fs) (drop k fs) in
+    = ap (includingAll m) (sym (take-append-drop k fs)) ∙ including-append m (take k fs) (drop k fs) in
     let s : sizeOf (includingAll m fs) ≡ sizeOf (includingAll (includingAll m (take k fs)) (drop k fs)) = ap sizeOf e in
     omega (arith, size-all-ge (includingAll m (take k fs)) (drop k fs), s)
 

@@ -80,9 +80,9 @@ count-short (x ∷ xs) p a b f m =
     let e : countOf (listed (x ∷ xs)) ≡ countOf (changedBy (listed xs) x true) = ap countOf (listed-cons x xs) in
     ⊎-elim
     (λ (s : sameOf x p a b ≡ true).
-      omega (arith, count-out (listed xs) (x .predicate) (x .first) (x .second) true (same-at inBounds (x .predicate) (x .first) (x .second) p a b s ∙ f), count-le xs))
+    omega (arith, count-out (listed xs) (x .predicate) (x .first) (x .second) true (same-at inBounds (x .predicate) (x .first) (x .second) p a b s ∙ f), count-le xs))
     (λ (k : listed xs p a b ≡ true).
-      omega (arith, count-put-le (listed xs) (x .predicate) (x .first) (x .second), count-short xs p a b f k))
+    omega (arith, count-put-le (listed xs) (x .predicate) (x .first) (x .second), count-short xs p a b f k))
     (or-cases (sameOf x p a b) (listed xs p a b) m)
 
 pub listed-bounded : (xs : List Fact) → countOf (listed xs) ≡ length xs → (p a b : ℕ) → listed xs p a b ≡ true → inBounds p a b ≡ true
@@ -110,30 +110,30 @@ pub fewer : (old new : List Fact) (x : Fact) → ((p a b : ℕ) → (sameOf x p 
     length old ≡ length new + 1 → countOf (listed old) ≡ length old → Fewer old new x
 fewer old new x e l c =
     let es : listed old ≡ changedBy (listed new) x true
-           = by-points (listed old) (changedBy (listed new) x true) (λ p a b. sym (e p a b) ∙ or-cond (sameOf x p a b) (listed new p a b)) in
+    = by-points (listed old) (changedBy (listed new) x true) (λ p a b. sym (e p a b) ∙ or-cond (sameOf x p a b) (listed new p a b)) in
     let ec : countOf (listed old) ≡ countOf (changedBy (listed new) x true) = ap countOf es in
     let le = count-le new in
     let f : allowed x ≡ true
-          = ⊎-elim (λ (t : allowed x ≡ true). t)
-            (λ (t : allowed x ≡ false). absurd (omega (arith, count-out (listed new) (x .predicate) (x .first) (x .second) true t)))
-            (cases-bool (allowed x)) in
+    = ⊎-elim (λ (t : allowed x ≡ true). t)
+    (λ (t : allowed x ≡ false). absurd (omega (arith, count-out (listed new) (x .predicate) (x .first) (x .second) true t)))
+    (cases-bool (allowed x)) in
     let k = count-changed (listed new) (x .predicate) (x .first) (x .second) true f in
     let m : listedAs new x ≡ false
-          = ⊎-elim (λ (t : listedAs new x ≡ true). absurd (let o : one (listedAs new x) ≡ 1 = ap one t in omega arith))
-            (λ (t : listedAs new x ≡ false). t)
-            (cases-bool (listedAs new x)) in
+    = ⊎-elim (λ (t : listedAs new x ≡ true). absurd (let o : one (listedAs new x) ≡ 1 = ap one t in omega arith))
+    (λ (t : listedAs new x ≡ false). t)
+    (cases-bool (listedAs new x)) in
     let o : one (listedAs new x) ≡ 0 = ap one m in
-    record
-      { facts =
+    record {
+      facts =
           by-points (listed new) (changedBy (listed old) x false)
           (λ p a b.
-            ⊎-elim
-            (λ (s : sameOf x p a b ≡ true).
-              sym (same-at (listed new) (x .predicate) (x .first) (x .second) p a b s)
-              ∙ (m ∙ sym (cond-true (sameOf x p a b) false (listed old p a b) s)))
-            (λ (s : sameOf x p a b ≡ false).
-              sym (ap (λ t. t || listed new p a b) s)
-              ∙ (e p a b ∙ sym (cond-false (sameOf x p a b) false (listed old p a b) s)))
-            (cases-bool (sameOf x p a b)))
-      ; count = omega arith
-      }
+          ⊎-elim
+          (λ (s : sameOf x p a b ≡ true).
+          sym (same-at (listed new) (x .predicate) (x .first) (x .second) p a b s)
+          ∙ (m ∙ sym (cond-true (sameOf x p a b) false (listed old p a b) s)))
+          (λ (s : sameOf x p a b ≡ false).
+          sym (ap (λ t. t || listed new p a b) s)
+          ∙ (e p a b ∙ sym (cond-false (sameOf x p a b) false (listed old p a b) s)))
+          (cases-bool (sameOf x p a b)));
+      count = omega arith;
+    }

@@ -46,11 +46,11 @@ pub list-lawful : (table : List Fact) (len : ℕ) → len ≤ min (length table)
     Lawful (listMeaning table len)
 unfolding listMeaning has sizeOf limitOf
 list-lawful table len few apart =
-    record
-      { bounded =
-          λ f h. listed-bounded (take len table) (apart ∙ sym (length-take-le len table (omega arith))) (f .predicate) (f .first) (f .second) h
-      ; within = omega arith
-      }
+    record {
+      bounded =
+          λ f h. listed-bounded (take len table) (apart ∙ sym (length-take-le len table (omega arith))) (f .predicate) (f .first) (f .second) h;
+      within = omega arith;
+    }
 
 pub list-has : (table : List Fact) (len : ℕ) (x : Fact) → has (listMeaning table len) x ≡ listedAs (take len table) x
 unfolding listMeaning has
@@ -87,24 +87,24 @@ module _ (table : List Fact) (len : ℕ) (x : Fact) (few : len ≤ min (length t
   take-fewer at d l e =
       let z : Fact = getD table (len - 1) d in
       let old : take len table ≡ take (len - 1) table ++ z ∷ []
-              = ap (λ n. take n table) (let k : len ≡ len - 1 + 1 = omega arith in k) ∙ take-more table (len - 1) d (omega arith) in
+      = ap (λ n. take n table) (let k : len ≡ len - 1 + 1 = omega arith in k) ∙ take-more table (len - 1) d (omega arith) in
       let lo : length (take len table) ≡ len = length-take-le len table (omega arith) in
       let ln : length (take (len - 1) (set table at z)) ≡ len - 1
-             = length-take-le (len - 1) (set table at z) (omega (arith, length-set table at z)) in
+      = length-take-le (len - 1) (set table at z) (omega (arith, length-set table at z)) in
       let ly : length (take (len - 1) table) ≡ len - 1 = length-take-le (len - 1) table (omega arith) in
       fewer (take len table) (take (len - 1) (set table at z)) x
       (λ p a b.
-        ⊎-elim
-        (λ (q : at ≡ len - 1).
-          ap (λ t. sameOf x p a b || listed t p a b) (ap (λ n. take (len - 1) (set table n z)) q ∙ take-set table (len - 1) z)
-          ∙ (ap (λ t. sameOf t p a b || listed (take (len - 1) table) p a b) (sym e ∙ ap (λ n. getD table n d) q)
-          ∙ (sym (listed-push z (take (len - 1) table) p a b) ∙ ap (λ t. listed t p a b) (sym old))))
-        (λ (q : at ≡ len - 1 → ⊥).
-          let lt : at < len - 1 = omega arith in
-          ap (λ t. sameOf x p a b || listed t p a b) (take-set-lt (len - 1) table at z lt)
-          ∙ (listed-set (take (len - 1) table) at x z d p a b (omega arith) (getD-take (len - 1) table at d lt ∙ e)
-          ∙ (sym (listed-push z (take (len - 1) table) p a b) ∙ ap (λ t. listed t p a b) (sym old))))
-        (cases-eq at (len - 1)))
+      ⊎-elim
+      (λ (q : at ≡ len - 1).
+      ap (λ t. sameOf x p a b || listed t p a b) (ap (λ n. take (len - 1) (set table n z)) q ∙ take-set table (len - 1) z)
+      ∙ (ap (λ t. sameOf t p a b || listed (take (len - 1) table) p a b) (sym e ∙ ap (λ n. getD table n d) q)
+      ∙ (sym (listed-push z (take (len - 1) table) p a b) ∙ ap (λ t. listed t p a b) (sym old))))
+      (λ (q : at ≡ len - 1 → ⊥).
+      let lt : at < len - 1 = omega arith in
+      ap (λ t. sameOf x p a b || listed t p a b) (take-set-lt (len - 1) table at z lt)
+      ∙ (listed-set (take (len - 1) table) at x z d p a b (omega arith) (getD-take (len - 1) table at d lt ∙ e)
+      ∙ (sym (listed-push z (take (len - 1) table) p a b) ∙ ap (λ t. listed t p a b) (sym old))))
+      (cases-eq at (len - 1)))
       (omega arith)
       (apart ∙ sym lo)
 

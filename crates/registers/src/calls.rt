@@ -55,17 +55,23 @@ pub fn make_calls<R: Register>(register: &mut R, lines: &mut [Line])
     for i in 0..lines.len() {
         let call = lines[i].call;
         let answer = make_call(register, call);
-        lines[i] = Line { call, answer: Some(answer) };
+        lines[i] = Line {
+            call,
+            answer: Some(answer),
+        };
     }
 }
 
 // The same calls on two registers of any makes: begun with equal meanings, they give equal answers and have equal meanings.
-pub fn make_calls_on_both<R: Register, S: Register>(left: &mut R, right: &mut S, left_lines: &mut [Line], right_lines: &mut [Line])
-    ensures {
-        λ _. ⌜ (R·Register .meaning (now (left .entry)) ≡ S·Register .meaning (now (right .entry)) →
+pub fn make_calls_on_both<R: Register, S: Register>(
+    left: &mut R,
+    right: &mut S,
+    left_lines: &mut [Line],
+    right_lines: &mut [Line],
+)
+    ensures { λ _. ⌜ (R·Register .meaning (now (left .entry)) ≡ S·Register .meaning (now (right .entry)) →
         map callsOf (now («left_lines» .entry)) ≡ map callsOf (now («right_lines» .entry)) →
-        (now («left_lines» .exit) ≡ now («right_lines» .exit)) × (R·Register .meaning (now (left .exit)) ≡ S·Register .meaning (now (right .exit)))) ⌝
-    }
+        (now («left_lines» .exit) ≡ now («right_lines» .exit)) × (R·Register .meaning (now (left .exit)) ≡ S·Register .meaning (now (right .exit)))) ⌝ }
 {
     make_calls(left, left_lines);
     make_calls(right, right_lines);

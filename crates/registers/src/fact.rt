@@ -26,6 +26,7 @@ impl Fact {
     pub fn is(self, other: Fact) -> bool
         ensures { λ r. ⌜ r ≡ sameFact (self .predicate) (self .first) (self .second) (other .predicate) (other .first) (other .second) ⌝ }
     {
-        self.predicate == other.predicate && (self.first == other.first && self.second == other.second)
+        self.predicate == other.predicate
+            && (self.first == other.first && self.second == other.second)
     }
 }

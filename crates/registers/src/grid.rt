@@ -35,7 +35,10 @@ impl Grid {
         ensures { λ r. ⌜ made r (λ g. gridMeaning (vec-items (g .rows)) (g .limit) ≡ emptyOf (min limit 262144)) ⌝ }
     {
         let rows = vec![in heap; 0u128; ROWS]?;
-        Ok(Grid { rows, limit: limit.min(ALL_FACTS) })
+        Ok(Grid {
+            rows,
+            limit: limit.min(ALL_FACTS),
+        })
     }
 
     fn has(&self, fact: Fact) -> bool

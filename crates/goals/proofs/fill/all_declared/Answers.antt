@@ -14,16 +14,16 @@ returns-then-not-is-declared g c =
 
 pub loop-k-again : need.loop-k-again
 loop-k-again g c =
-    elim (c .match-get .came)
-    [ in-Some·else-not-is-declared w ↦
-        c .loop-k .inv ∙ declared-drop (c .args .file .now) (c .args .frame) (g .L·FactList .listed (c .args .facts .now)) (c .loop-k .k) (w .in-Some .fact) true (w .in-Some .ensures tt) (w .if-not-is-declared .ensures tt)
-    | in-rest w ↦
-        c .loop-k .inv ∙ ap (allDeclared (c .args .file .now) (c .args .frame)) (drop-past (g .L·FactList .listed (c .args .facts .now)) (c .loop-k .k) (w .in-rest .ensures tt))
+    elim (c .match-get .came) [
+      | in-Some·else-not-is-declared w ↦
+          c .loop-k .inv ∙ declared-drop (c .args .file .now) (c .args .frame) (g .L·FactList .listed (c .args .facts .now)) (c .loop-k .k) (w .in-Some .fact) true (w .in-Some .ensures tt) (w .if-not-is-declared .ensures tt)
+      | in-rest w ↦
+          c .loop-k .inv ∙ ap (allDeclared (c .args .file .now) (c .args .frame)) (drop-past (g .L·FactList .listed (c .args .facts .now)) (c .loop-k .k) (w .in-rest .ensures tt))
     ]
 
 pub returns : need.returns
 returns g c =
     sym
-      ( c .loop-k .inv
-      ∙ ( ap (allDeclared (c .args .file .now) (c .args .frame)) (drop-all (c .loop-k .k) (g .L·FactList .listed (c .args .facts .now)) (omega (arith, c .count-k-end .ensures)))
-      ∙ declared-none (c .args .file .now) (c .args .frame) ))
+    (c .loop-k .inv
+    ∙ (ap (allDeclared (c .args .file .now) (c .args .frame)) (drop-all (c .loop-k .k) (g .L·FactList .listed (c .args .facts .now)) (omega (arith, c .count-k-end .ensures)))
+    ∙ declared-none (c .args .file .now) (c .args .frame)))

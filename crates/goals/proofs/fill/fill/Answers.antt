@@ -23,20 +23,20 @@ pub returns-in-Break-frame : need.returns-in-Break-frame
 returns-in-Break-frame g c =
     let m = g .R·Register .meaning (c .args .register .now) in
     let o = out (File (c .in-Break-frame .field-0 .0)) (c .from-residual .result) (c .from-residual .ensures .1) in
-    record
-      { answer = o ∙ fill-unframed m (c .args .file .now) (c .in-Break-frame .field-0 .0) (c .in-Break-frame .ensures tt)
-      ; after = sym (ap (meaningAfter m (c .args .file .now)) o)
-      }
+    record {
+      answer = o ∙ fill-unframed m (c .args .file .now) (c .in-Break-frame .field-0 .0) (c .in-Break-frame .ensures tt);
+      after = sym (ap (meaningAfter m (c .args .file .now)) o);
+    }
 
 pub returns-then-not-all-declared : need.returns-then-not-all-declared
 returns-then-not-all-declared g c =
     let m = g .R·Register .meaning (c .args .register .now) in
-    record
-      { answer =
+    record {
+      answer =
           fill-undeclared m (c .args .file .now) (c .in-Continue-frame .frame) (c .in-Continue-frame .ensures tt)
-          (ap (allDeclared (c .args .file .now) (c .in-Continue-frame .frame)) (sym (c .new-facts .ensures)) ∙ sym (c .if-not-all-declared .ensures tt))
-      ; after = refl
-      }
+          (ap (allDeclared (c .args .file .now) (c .in-Continue-frame .frame)) (sym (c .new-facts .ensures)) ∙ sym (c .if-not-all-declared .ensures tt));
+      after = refl;
+    }
 
 pub returns-in-Break-put-all : need.returns-in-Break-put-all
 returns-in-Break-put-all g c =
@@ -44,25 +44,25 @@ returns-in-Break-put-all g c =
     let refusal = c .in-Break-put-all .field-0 .0 in
     let o = out (Register refusal) (c .from-residual-in-Break-put-all .result) (c .from-residual-in-Break-put-all .ensures .1) in
     let r = c .in-Break-put-all .ensures tt .answer ∙ ap (putAllAnswer m) (c .new-facts .ensures) in
-    record
-      { answer =
+    record {
+      answer =
           o ∙ fill-put m (c .args .file .now) (c .in-Continue-frame .frame) (c .in-Continue-frame .ensures tt) (Err refusal)
-          (ap (allDeclared (c .args .file .now) (c .in-Continue-frame .frame)) (sym (c .new-facts .ensures)) ∙ sym (c .if-not-all-declared .ensures tt)) r
-      ; after =
+          (ap (allDeclared (c .args .file .now) (c .in-Continue-frame .frame)) (sym (c .new-facts .ensures)) ∙ sym (c .if-not-all-declared .ensures tt)) r;
+      after =
           c .put-all .ensures .after
           ∙ (ap (afterPutAll m) (c .new-facts .ensures)
-          ∙ (put-refused m (factsOf (c .args .file .now) (c .in-Continue-frame .frame)) refusal r ∙ sym (ap (meaningAfter m (c .args .file .now)) o)))
-      }
+          ∙ (put-refused m (factsOf (c .args .file .now) (c .in-Continue-frame .frame)) refusal r ∙ sym (ap (meaningAfter m (c .args .file .now)) o)));
+    }
 
 pub returns : need.returns
 returns g c =
     let m = g .R·Register .meaning (c .args .register .now) in
     let r = c .in-Continue-put-all .ensures tt .answer ∙ ap (putAllAnswer m) (c .new-facts .ensures) in
-    record
-      { answer =
+    record {
+      answer =
           fill-put m (c .args .file .now) (c .in-Continue-frame .frame) (c .in-Continue-frame .ensures tt) (Ok tt)
-          (ap (allDeclared (c .args .file .now) (c .in-Continue-frame .frame)) (sym (c .new-facts .ensures)) ∙ sym (c .if-not-all-declared .ensures tt)) r
-      ; after =
+          (ap (allDeclared (c .args .file .now) (c .in-Continue-frame .frame)) (sym (c .new-facts .ensures)) ∙ sym (c .if-not-all-declared .ensures tt)) r;
+      after =
           c .put-all .ensures .after
-          ∙ (ap (afterPutAll m) (c .new-facts .ensures) ∙ put-accepted m (factsOf (c .args .file .now) (c .in-Continue-frame .frame)) r)
-      }
+          ∙ (ap (afterPutAll m) (c .new-facts .ensures) ∙ put-accepted m (factsOf (c .args .file .now) (c .in-Continue-frame .frame)) r);
+    }

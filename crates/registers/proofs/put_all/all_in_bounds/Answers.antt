@@ -13,10 +13,10 @@ returns-then-not-in-bounds g c =
 
 pub loop-k-again : need.loop-k-again
 loop-k-again g c =
-    elim (c .match-get .came)
-    [ in-Some·else-not-in-bounds w ↦
-        c .loop-k .inv ∙ allowed-drop (g .L·FactList .listed (c .args .list .now)) (c .loop-k .k) (w .in-Some .fact) true (w .in-Some .ensures tt) (w .if-not-in-bounds .ensures tt)
-    | in-rest w ↦ c .loop-k .inv ∙ ap allAllowed (drop-past (g .L·FactList .listed (c .args .list .now)) (c .loop-k .k) (w .in-rest .ensures tt))
+    elim (c .match-get .came) [
+      | in-Some·else-not-in-bounds w ↦
+          c .loop-k .inv ∙ allowed-drop (g .L·FactList .listed (c .args .list .now)) (c .loop-k .k) (w .in-Some .fact) true (w .in-Some .ensures tt) (w .if-not-in-bounds .ensures tt)
+      | in-rest w ↦ c .loop-k .inv ∙ ap allAllowed (drop-past (g .L·FactList .listed (c .args .list .now)) (c .loop-k .k) (w .in-rest .ensures tt))
     ]
 
 pub returns : need.returns

@@ -17,28 +17,31 @@ pub loop-k-again : need.loop-k-again
 loop-k-again g c =
     let m = g .R·Register .meaning (c .args .register .now) in
     let fs = g .L·FactList .listed (c .args .list .now) in
-    elim (c .match-get .came)
-    [ in-Some·then-not-holds·then-not-is-before w ↦
-        ( ap (λ n. sizeOf m + n) (w .new-is)
-          ∙ new-more m fs (c .loop-k .k) (c .loop-k .new) (w .in-Some .fact) (c .pre) (w .in-Some .ensures tt) (c .loop-k .inv .0) (sym (w .if-not-holds .ensures tt .answer)) (sym (w .if-not-is-before .ensures tt))
-        , omega (arith, w .new-is, c .loop-k .inv .1) )
-    | in-Some·else-not-holds w ↦
-        ( ap (λ n. sizeOf m + n) (w .new-is)
-          ∙ elim (w .else-not-holds .came)
-            [ else-not-holds·by·then-not-holds·else-not-is-before v ↦
-                listed-before-more m fs (c .loop-k .k) (c .loop-k .new) (w .in-Some .fact) (w .in-Some .ensures tt) (c .loop-k .inv .0) (sym (v .if-not-is-before .ensures tt))
-            | else-not-holds·by·else-not-holds v ↦
-                held-more m fs (c .loop-k .k) (c .loop-k .new) (w .in-Some .fact) (w .in-Some .ensures tt) (c .loop-k .inv .0) (sym (v .if-not-holds .ensures tt .answer))
-            ]
-        , omega (arith, w .new-is, c .loop-k .inv .1) )
-    | in-rest w ↦
-        ( ap (λ n. sizeOf m + n) (w .new-is)
-          ∙ (c .loop-k .inv .0 ∙ ap (λ t. sizeOf (includingAll m t)) (sym (take-past fs (c .loop-k .k) (w .in-rest .ensures tt))))
-        , omega (arith, w .new-is, c .loop-k .inv .1) )
+    elim (c .match-get .came) [
+      | in-Some·then-not-holds·then-not-is-before w ↦ (
+        ap (λ n. sizeOf m + n) (w .new-is)
+            ∙ new-more m fs (c .loop-k .k) (c .loop-k .new) (w .in-Some .fact) (c .pre) (w .in-Some .ensures tt) (c .loop-k .inv .0) (sym (w .if-not-holds .ensures tt .answer)) (sym (w .if-not-is-before .ensures tt)),
+        omega (arith, w .new-is, c .loop-k .inv .1),
+      )
+      | in-Some·else-not-holds w ↦ (
+        ap (λ n. sizeOf m + n) (w .new-is)
+            ∙ elim (w .else-not-holds .came) [
+              | else-not-holds·by·then-not-holds·else-not-is-before v ↦
+                  listed-before-more m fs (c .loop-k .k) (c .loop-k .new) (w .in-Some .fact) (w .in-Some .ensures tt) (c .loop-k .inv .0) (sym (v .if-not-is-before .ensures tt))
+              | else-not-holds·by·else-not-holds v ↦
+                  held-more m fs (c .loop-k .k) (c .loop-k .new) (w .in-Some .fact) (w .in-Some .ensures tt) (c .loop-k .inv .0) (sym (v .if-not-holds .ensures tt .answer))
+            ],
+        omega (arith, w .new-is, c .loop-k .inv .1),
+      )
+      | in-rest w ↦ (
+        ap (λ n. sizeOf m + n) (w .new-is)
+            ∙ (c .loop-k .inv .0 ∙ ap (λ t. sizeOf (includingAll m t)) (sym (take-past fs (c .loop-k .k) (w .in-rest .ensures tt)))),
+        omega (arith, w .new-is, c .loop-k .inv .1),
+      )
     ]
 
 pub returns : need.returns
 returns g c =
     c .loop-k .inv .0
     ∙ ap (λ t. sizeOf (includingAll (g .R·Register .meaning (c .args .register .now)) t))
-      (take-all (c .loop-k .k) (g .L·FactList .listed (c .args .list .now)) (omega (arith, c .count-k-end .ensures)))
+    (take-all (c .loop-k .k) (g .L·FactList .listed (c .args .list .now)) (omega (arith, c .count-k-end .ensures)))

@@ -17,8 +17,8 @@ returns-then-is g c =
 
 pub loop-k-again : need.loop-k-again
 loop-k-again g c =
-    elim (c .match-get .came)
-    [ in-Some·else-is w ↦
-        listed-more-at (g .L·FactList .listed (c .args .list .now)) (c .loop-k .k) (w .in-Some .other) (c .args .fact) (w .in-Some .ensures tt) (c .loop-k .inv) (sym (w .if-is .ensures tt))
-    | in-rest w ↦ ap (λ t. listedAs t (c .args .fact)) (take-past _ (c .loop-k .k) (w .in-rest .ensures tt)) ∙ c .loop-k .inv
+    elim (c .match-get .came) [
+      | in-Some·else-is w ↦
+          listed-more-at (g .L·FactList .listed (c .args .list .now)) (c .loop-k .k) (w .in-Some .other) (c .args .fact) (w .in-Some .ensures tt) (c .loop-k .inv) (sym (w .if-is .ensures tt))
+      | in-rest w ↦ ap (λ t. listedAs t (c .args .fact)) (take-past _ (c .loop-k .k) (w .in-rest .ensures tt)) ∙ c .loop-k .inv
     ]

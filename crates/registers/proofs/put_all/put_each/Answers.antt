@@ -13,18 +13,18 @@ pub loop-k-again : need.loop-k-again
 loop-k-again g c =
     let m = g .R·Register .meaning (c .args .register .now) in
     let fs = g .L·FactList .listed (c .args .list .now) in
-    elim (c .match-get .came)
-    [ in-Some w ↦
-        ap (g .R·Register .meaning) (w .register-is)
-        ∙ (w .put .ensures .after
-        ∙ put-more m (g .R·Register .meaning (c .loop-k .register)) fs (c .loop-k .k) (w .in-Some .fact) (c .pre .bounds) (c .pre .room) (w .in-Some .ensures tt) (c .loop-k .inv))
-    | in-rest w ↦
-        ap (g .R·Register .meaning) (w .register-is)
-        ∙ (c .loop-k .inv ∙ ap (includingAll m) (sym (take-past fs (c .loop-k .k) (w .in-rest .ensures tt))))
+    elim (c .match-get .came) [
+      | in-Some w ↦
+          ap (g .R·Register .meaning) (w .register-is)
+          ∙ (w .put .ensures .after
+          ∙ put-more m (g .R·Register .meaning (c .loop-k .register)) fs (c .loop-k .k) (w .in-Some .fact) (c .pre .bounds) (c .pre .room) (w .in-Some .ensures tt) (c .loop-k .inv))
+      | in-rest w ↦
+          ap (g .R·Register .meaning) (w .register-is)
+          ∙ (c .loop-k .inv ∙ ap (includingAll m) (sym (take-past fs (c .loop-k .k) (w .in-rest .ensures tt))))
     ]
 
 pub returns : need.returns
 returns g c =
     c .loop-k .inv
     ∙ ap (includingAll (g .R·Register .meaning (c .args .register .now)))
-      (take-all (c .loop-k .k) (g .L·FactList .listed (c .args .list .now)) (omega (arith, c .count-k-end .ensures)))
+    (take-all (c .loop-k .k) (g .L·FactList .listed (c .args .list .now)) (omega (arith, c .count-k-end .ensures)))

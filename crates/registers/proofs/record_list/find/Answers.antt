@@ -12,13 +12,13 @@ loop-i-holds c = refl
 
 pub returns-then-is : need.returns-then-is
 returns-then-is c =
-    record
-      { within = omega arith
-      ; tells =
+    record {
+      within = omega arith;
+      tells =
           listed-found (c .args .table .now) (c .args .len) (c .loop-i .i) _ (c .args .fact) (omega arith) (omega arith) (sym (c .if-is .ensures tt))
-          ∙ sym (lt-ltb (c .loop-i .i) (c .args .len) (omega arith))
-      ; there = λ d l. getD-default (c .args .table .now) (c .loop-i .i) d _ (omega arith) ∙ fact-eq _ (c .args .fact) (sym (c .if-is .ensures tt))
-      }
+          ∙ sym (lt-ltb (c .loop-i .i) (c .args .len) (omega arith));
+      there = λ d l. getD-default (c .args .table .now) (c .loop-i .i) d _ (omega arith) ∙ fact-eq _ (c .args .fact) (sym (c .if-is .ensures tt));
+    }
 
 pub loop-i-again : need.loop-i-again
 loop-i-again c =

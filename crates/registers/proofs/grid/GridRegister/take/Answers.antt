@@ -15,9 +15,10 @@ index-requires c κs =
 
 pub without-bit-row-requires : need.without-bit-row-requires
 without-bit-row-requires c κs =
-    let a : allowed (c .args .fact) ≡ true = grid-inside _ (c .args .fact) (sym (c .if-has .ensures tt)) in
-    ( bounds-parts (c .args .fact .predicate) (c .args .fact .first) (c .args .fact .second) a .2
-    , grid-at _ (c .args .fact .predicate) (c .args .fact .first) (c .args .fact .second) _ _ a (c .row-of-at .ensures) (sym (c .args .self .now .rows .ok .0) ∙ c .args .self .now .whole) (c .index .ensures) ∙ sym (c .if-has .ensures tt) )
+    let a : allowed (c .args .fact) ≡ true = grid-inside _ (c .args .fact) (sym (c .if-has .ensures tt)) in (
+      bounds-parts (c .args .fact .predicate) (c .args .fact .first) (c .args .fact .second) a .2,
+      grid-at _ (c .args .fact .predicate) (c .args .fact .first) (c .args .fact .second) _ _ a (c .row-of-at .ensures) (sym (c .args .self .now .rows .ok .0) ∙ c .args .self .now .whole) (c .index .ensures) ∙ sym (c .if-has .ensures tt),
+    )
 
 pub index-mut-requires : need.index-mut-requires
 index-mut-requires c κs =
@@ -28,20 +29,20 @@ index-mut-requires c κs =
 pub ghost-self : need.ghost-self
 ghost-self c =
     let m = grid-fewer _ (c .args .self .now .limit) (c .args .fact) (c .row-of-at .result) _ (c .without-bit-row .result)
-            (grid-inside _ (c .args .fact) (sym (c .if-has .ensures tt))) (c .row-of-at .ensures) (sym (c .args .self .now .rows .ok .0) ∙ c .args .self .now .whole)
-            (c .index .ensures) (c .args .self .now .few) (c .without-bit-row .ensures) in
+    (grid-inside _ (c .args .fact) (sym (c .if-has .ensures tt))) (c .row-of-at .ensures) (sym (c .args .self .now .rows .ok .0) ∙ c .args .self .now .whole)
+    (c .index .ensures) (c .args .self .now .few) (c .without-bit-row .ensures) in
     (c .args .self .now .whole, (c .args .self .now .cut, (m .few, tt)))
 
 pub returns-then-has : need.returns-then-has
 returns-then-has c =
     let m = grid-fewer _ (c .args .self .now .limit) (c .args .fact) (c .row-of-at .result) _ (c .without-bit-row .result)
-            (grid-inside _ (c .args .fact) (sym (c .if-has .ensures tt))) (c .row-of-at .ensures) (sym (c .args .self .now .rows .ok .0) ∙ c .args .self .now .whole)
-            (c .index .ensures) (c .args .self .now .few) (c .without-bit-row .ensures) in
+    (grid-inside _ (c .args .fact) (sym (c .if-has .ensures tt))) (c .row-of-at .ensures) (sym (c .args .self .now .rows .ok .0) ∙ c .args .self .now .whole)
+    (c .index .ensures) (c .args .self .now .few) (c .without-bit-row .ensures) in
     record { after = m .after ∙ take-excluding _ (c .args .fact); lawful = grid-lawful _ _ (c .args .self .now .few) }
 
 pub returns-else-has : need.returns-else-has
 returns-else-has c =
-    record
-      { after = take-absent _ (c .args .fact) (sym (grid-has _ _ (c .args .fact)) ∙ sym (c .if-has .ensures tt))
-      ; lawful = grid-lawful _ _ (c .args .self .now .few)
-      }
+    record {
+      after = take-absent _ (c .args .fact) (sym (grid-has _ _ (c .args .fact)) ∙ sym (c .if-has .ensures tt));
+      lawful = grid-lawful _ _ (c .args .self .now .few);
+    }

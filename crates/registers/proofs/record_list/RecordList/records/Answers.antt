@@ -12,7 +12,7 @@ returns c =
     let len = c .args .self .now .len in
     let table = c .args .self .now .table .now in
     let e : len - 0 ≡ len = omega arith in
-    record
-      { each = λ f. ap (λ n. listedAs (take n table) f) e ∙ sym (list-has table len f)
-      ; once = ap (λ n. length (take n table)) e ∙ (length-take-le len table (omega arith) ∙ list-size table len (c .args .self .now .apart))
-      }
+    record {
+      each = λ f. ap (λ n. listedAs (take n table) f) e ∙ sym (list-has table len f);
+      once = ap (λ n. length (take n table)) e ∙ (length-take-le len table (omega arith) ∙ list-size table len (c .args .self .now .apart));
+    }

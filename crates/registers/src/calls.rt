@@ -62,14 +62,18 @@ pub fn make_calls<R: Register>(register: &mut R, lines: &mut [Line])
     }
 }
 
-// The same calls on two registers of any makes: begun with equal meanings, they give equal answers and have equal meanings.
+// The same calls on two registers of any makes: each answers by its own meaning; begun with equal meanings, they give equal answers and have equal meanings.
 pub fn make_calls_on_both<R: Register, S: Register>(
     left: &mut R,
     right: &mut S,
     left_lines: &mut [Line],
     right_lines: &mut [Line],
 )
-    ensures { λ _. ⌜ (R·Register .meaning (now (left .entry)) ≡ S·Register .meaning (now (right .entry)) →
+    ensures left_answers { λ _. ⌜ now («left_lines» .exit) ≡ answered (R·Register .meaning (now (left .entry))) (now («left_lines» .entry)) ⌝ }
+    ensures left_after { λ _. ⌜ R·Register .meaning (now (left .exit)) ≡ afterLines (R·Register .meaning (now (left .entry))) (now («left_lines» .entry)) ⌝ }
+    ensures right_answers { λ _. ⌜ now («right_lines» .exit) ≡ answered (S·Register .meaning (now (right .entry))) (now («right_lines» .entry)) ⌝ }
+    ensures right_after { λ _. ⌜ S·Register .meaning (now (right .exit)) ≡ afterLines (S·Register .meaning (now (right .entry))) (now («right_lines» .entry)) ⌝ }
+    ensures alike { λ _. ⌜ (R·Register .meaning (now (left .entry)) ≡ S·Register .meaning (now (right .entry)) →
         map callsOf (now («left_lines» .entry)) ≡ map callsOf (now («right_lines» .entry)) →
         (now («left_lines» .exit) ≡ now («right_lines» .exit)) × (R·Register .meaning (now (left .exit)) ≡ S·Register .meaning (now (right .exit)))) ⌝ }
 {

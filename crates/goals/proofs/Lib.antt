@@ -1,2 +1,4 @@
 pub mod FrameSteps
 pub mod FillSteps
+pub mod Finding
+pub mod EntrySteps

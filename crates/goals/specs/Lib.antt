@@ -1,3 +1,9 @@
 pub mod Bytes
 pub mod Frame
 pub mod Filling
+pub mod Tokens
+pub mod Vocabulary
+pub mod Meanings
+pub mod Sections
+pub mod CatalogueRules
+pub mod Entries

@@ -4,3 +4,7 @@ pub mod facts;
 pub mod file_fault;
 pub mod fill;
 pub mod frame;
+pub mod operation;
+pub mod predicate;
+mod read_operation;
+pub mod time;

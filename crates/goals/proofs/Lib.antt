@@ -2,3 +2,5 @@ pub mod FrameSteps
 pub mod FillSteps
 pub mod Finding
 pub mod EntrySteps
+pub mod PredicateSteps
+pub mod OperationSteps

@@ -7,3 +7,6 @@ pub mod Meanings
 pub mod Sections
 pub mod CatalogueRules
 pub mod Entries
+pub mod CatalogueMeaning
+pub mod CatalogueNumbers
+pub mod CatalogueReading

@@ -75,3 +75,8 @@ operation-at-fault ids ps all file n k at items e len l h =
           = ap (λ t. nth t k) (e ∙ ap (λ t. map operationText items ++ t) r)
             ∙ nth-behind (map operationText items) (operationAt file at) (operationsAt file (n - (k + 1)) (behind file at)) k (length-map items operationText ∙ len) in
     subst (λ o. Cases o ⊥ (λ x. soundOperation ids ps x ≡ false)) (sym q) h
+
+pub operations-count : (file : List ℕ) (n at : ℕ) → length (operationsAt file n at) ≡ n
+unfolding operationsAt
+operations-count file zero at = refl
+operations-count file (suc n) at = ap suc (operations-count file n (behind file at))

@@ -81,3 +81,33 @@ fn read_operations(file: &[u8], start: usize, count: u8, ids: u8, predicates: &[
     }
     Ok(())
 }
+
+// 1 to 128 ids, 1 to 16 predicates, at most 64 operations.
+fn counts_in_limits(frame: Frame) -> bool
+    ensures { λ r. ⌜ r ≡ soundCounts (frame .ids) (frame .predicates) (frame .operations) ⌝ }
+{
+    (frame.ids >= 1 && frame.ids <= MOST_IDS)
+        && ((frame.predicates >= 1 && frame.predicates <= MOST_PREDICATES) && frame.operations <= MOST_OPERATIONS)
+}
+
+const MOST_IDS: u8 = 128;
+const MOST_PREDICATES: u8 = 16;
+const MOST_OPERATIONS: u8 = 64;
+
+// Reads the catalogue of a framed file: refused with 1 for its counts, predicates and names, then with 2 for an operation.
+pub(crate) fn read_catalogue(file: &[u8], frame: Frame, room: CatalogueRoom) -> Result<Catalogue, CatalogueFault>
+    requires { ⌜ frame .«operations_at» ≤ 40000 ⌝ }
+    ensures { λ r. ⌜ Catalogue-says (now (file .entry)) frame r ⌝ }
+{
+    if !counts_in_limits(frame) {
+        return Err(CatalogueFault::Shape);
+    }
+    let CatalogueRoom { mut predicates, mut operations } = room;
+    if !read_predicates(file, frame.predicates, &mut predicates) {
+        return Err(CatalogueFault::Shape);
+    }
+    if let Err(number) = read_operations(file, frame.operations_at, frame.operations, frame.ids, predicates.as_slice(), &mut operations) {
+        return Err(CatalogueFault::Operation(number));
+    }
+    Ok(Catalogue { ids: frame.ids, predicates, operations })
+}

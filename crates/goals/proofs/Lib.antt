@@ -4,3 +4,4 @@ pub mod Finding
 pub mod EntrySteps
 pub mod PredicateSteps
 pub mod OperationSteps
+pub mod Stretches

@@ -5,6 +5,7 @@ pub mod Tokens
 pub mod Vocabulary
 pub mod Meanings
 pub mod Sections
+pub mod Written
 pub mod CatalogueRules
 pub mod Entries
 pub mod CatalogueMeaning

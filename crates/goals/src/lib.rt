@@ -2,6 +2,7 @@
 mod bytes;
 pub mod catalogue;
 pub mod catalogue_fault;
+pub mod exact;
 pub mod facts;
 pub mod file_fault;
 pub mod fill;

@@ -63,8 +63,8 @@ pub entry-back : (need n : Bool) (b k : ℕ) (x : EntryText) (t u : EntryTerm) �
     _≡_ {A = EntryText} (record { predicate = cond n (128 + k) k; first = termByte t; second = termByte u }) x
 entry-back need n b k x t u eb en ek et eu =
     let q : cond n (128 + k) k ≡ x .predicate
-          = ap (λ (y : ℕ). cond n (128 + y) y) (ek ∙ ap (λ v. cond v (b - 128) b) (sym en))
-            ∙ (predicate-back n b (λ h. leb-true 128 b (and-parts need (leb 128 b) (sym en ∙ h) .1)) ∙ eb) in
+    = ap (λ (y : ℕ). cond n (128 + y) y) (ek ∙ ap (λ v. cond v (b - 128) b) (sym en))
+    ∙ (predicate-back n b (λ h. leb-true 128 b (and-parts need (leb 128 b) (sym en ∙ h) .1)) ∙ eb) in
     λ i. record { predicate = q i; first = et i; second = eu i }
 
 -- lists of entries
@@ -80,7 +80,7 @@ entries-more file zero at = ap (λ n. entryAt file n ∷ []) (let e : at ≡ at 
 entries-more file (suc k) at =
     ap (λ n. entriesAt file n at) (let e : suc k + 1 ≡ suc (k + 1) = omega arith in e)
     ∙ ap (λ l. entryAt file at ∷ l)
-      (entries-more file k (at + 3) ∙ ap (λ n. entriesAt file k (at + 3) ++ entryAt file n ∷ []) (let e : at + 3 + 3 * k ≡ at + 3 * suc k = omega arith in e))
+    (entries-more file k (at + 3) ∙ ap (λ n. entriesAt file k (at + 3) ++ entryAt file n ∷ []) (let e : at + 3 + 3 * k ≡ at + 3 * suc k = omega arith in e))
 
 module _ (need : Bool) (ids : ℕ) (ps : List PredicateText) (parameters : ℕ) where
   -- what is left to test, one entry on

@@ -5,3 +5,4 @@ pub mod EntrySteps
 pub mod PredicateSteps
 pub mod OperationSteps
 pub mod Stretches
+pub mod Decoding

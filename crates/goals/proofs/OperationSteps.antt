@@ -72,8 +72,8 @@ pub operation-at-fault : (ids : ℕ) (ps : List PredicateText) (all : List Opera
 operation-at-fault ids ps all file n k at items e len l h =
     let r = rest-more file n k at (behind file at) l refl in
     let q : nth all k ≡ Some (operationAt file at)
-          = ap (λ t. nth t k) (e ∙ ap (λ t. map operationText items ++ t) r)
-            ∙ nth-behind (map operationText items) (operationAt file at) (operationsAt file (n - (k + 1)) (behind file at)) k (length-map items operationText ∙ len) in
+    = ap (λ t. nth t k) (e ∙ ap (λ t. map operationText items ++ t) r)
+    ∙ nth-behind (map operationText items) (operationAt file at) (operationsAt file (n - (k + 1)) (behind file at)) k (length-map items operationText ∙ len) in
     subst (λ o. Cases o ⊥ (λ x. soundOperation ids ps x ≡ false)) (sym q) h
 
 pub operations-count : (file : List ℕ) (n at : ℕ) → length (operationsAt file n at) ≡ n

@@ -35,7 +35,7 @@ bytes-more file zero at = ap (λ n. byteAt file n ∷ []) (let e : at ≡ at + 0
 bytes-more file (suc k) at =
     ap (λ n. bytesAt file n at) (let e : suc k + 1 ≡ suc (k + 1) = omega arith in e)
     ∙ ap (λ l. byteAt file at ∷ l)
-      (bytes-more file k (at + 1) ∙ ap (λ n. bytesAt file k (at + 1) ++ byteAt file n ∷ []) (let e : at + 1 + k ≡ at + suc k = omega arith in e))
+    (bytes-more file k (at + 1) ∙ ap (λ n. bytesAt file k (at + 1) ++ byteAt file n ∷ []) (let e : at + 1 + k ≡ at + suc k = omega arith in e))
 
 pub no-bytes : (file : List ℕ) (at : ℕ) → [] ≡ bytesAt file 0 at
 unfolding bytesAt
@@ -143,7 +143,6 @@ unfolding soundPredicates
 sound-more before p ps h t =
     ap (λ v. v && (not (taken (p .name) before) && soundPredicates (before ++ p ∷ []) ps)) h
     ∙ ap (λ v. not v && soundPredicates (before ++ p ∷ []) ps) t
-
 
 -- one predicate more in the table
 module _ (file : List ℕ) (n k at next : ℕ) (items : List Predicate) (p : Predicate) (l : k < n) (e : next ≡ at + 2 + byteAt file (at + 1)) (q : predicateText p ≡ predicateAt file at) where

@@ -30,7 +30,7 @@ bytes-append file zero m at =
 bytes-append file (suc n) m at =
     ap (λ k. bytesAt file k at) (let e : suc n + m ≡ suc (n + m) = omega arith in e)
     ∙ ap (λ l. byteAt file at ∷ l)
-      (bytes-append file n m (at + 1) ∙ ap (λ k. bytesAt file n (at + 1) ++ bytesAt file m k) (let e : at + 1 + n ≡ at + suc n = omega arith in e))
+    (bytes-append file n m (at + 1) ∙ ap (λ k. bytesAt file n (at + 1) ++ bytesAt file m k) (let e : at + 1 + n ≡ at + suc n = omega arith in e))
 
 -- the bytes bs stand in the file from one place to the other
 pub record Stretch (file : List ℕ) (at : ℕ) (bs : List ℕ) (end : ℕ) : Type 0 where
@@ -43,13 +43,13 @@ nothing file at = record { bytes = refl; ends = omega arith }
 
 pub then : (file : List ℕ) (at mid end : ℕ) (bs cs : List ℕ) → Stretch file at bs mid → Stretch file mid cs end → Stretch file at (bs ++ cs) end
 then file at mid end bs cs s t =
-    record
-      { bytes =
+    record {
+      bytes =
           ap (λ n. bytesAt file n at) (length-append bs cs)
           ∙ (bytes-append file (length bs) (length cs) at
-          ∙ ap₂ _++_ (s .bytes) (ap (bytesAt file (length cs)) (sym (s .ends)) ∙ t .bytes))
-      ; ends = omega (arith, s .ends, t .ends, length-append bs cs)
-      }
+          ∙ ap₂ _++_ (s .bytes) (ap (bytesAt file (length cs)) (sym (s .ends)) ∙ t .bytes));
+      ends = omega (arith, s .ends, t .ends, length-append bs cs);
+    }
 
 pub moved : (file : List ℕ) (at end end′ : ℕ) (bs : List ℕ) → end ≡ end′ → Stretch file at bs end → Stretch file at bs end′
 moved file at end end′ bs e s = record { bytes = s .bytes; ends = sym e ∙ s .ends }
@@ -60,9 +60,9 @@ unfolding bytesAt
 whole-from xs [] = refl
 whole-from xs (y ∷ ys) =
     ap₂ _∷_ (getD-at xs y ys 0 (length xs) refl)
-      (ap (λ l. bytesAt l (length ys) (length xs + 1)) (sym (append-assoc xs (y ∷ []) ys))
-      ∙ (ap (bytesAt ((xs ++ y ∷ []) ++ ys) (length ys)) (let e : length xs + 1 ≡ length (xs ++ y ∷ []) = omega (arith, length-append xs (y ∷ [])) in e)
-      ∙ whole-from (xs ++ y ∷ []) ys))
+    (ap (λ l. bytesAt l (length ys) (length xs + 1)) (sym (append-assoc xs (y ∷ []) ys))
+    ∙ (ap (bytesAt ((xs ++ y ∷ []) ++ ys) (length ys)) (let e : length xs + 1 ≡ length (xs ++ y ∷ []) = omega (arith, length-append xs (y ∷ [])) in e)
+    ∙ whole-from (xs ++ y ∷ []) ys))
 
 pub whole : (file : List ℕ) (bs : List ℕ) → Stretch file 0 bs (length file) → bs ≡ file
 whole file bs s =
@@ -77,13 +77,13 @@ pub predicate-stretch : (file : List ℕ) (at : ℕ) → Stretch file at (predic
 unfolding bytesAt
 predicate-stretch file at =
     let n : length (bytesAt file (byteAt file (at + 1)) (at + 2)) ≡ byteAt file (at + 1) = bytes-count file (byteAt file (at + 1)) (at + 2) in
-    record
-      { bytes =
+    record {
+      bytes =
           ap₂ (λ (a : ℕ) (l : List ℕ). byteAt file at ∷ (a ∷ l)) (sym n)
           (ap (λ k. bytesAt file (length (bytesAt file (byteAt file (at + 1)) (at + 2))) k) (let e : at + 1 + 1 ≡ at + 2 = omega arith in e)
-          ∙ ap (λ k. bytesAt file k (at + 2)) n)
-      ; ends = omega (arith, n)
-      }
+          ∙ ap (λ k. bytesAt file k (at + 2)) n);
+      ends = omega (arith, n);
+    }
 
 pub predicates-stretch : (file : List ℕ) (n at : ℕ) → Stretch file at (joined predicateBytes (predicatesAt file n at)) (predicatesEnd file n at)
 unfolding predicatesAt predicatesEnd
@@ -151,7 +151,7 @@ operation-stretch file at small =
     let et = sym (entries-count file (byteAt file (at + 4)) (at + 6 + 3 * byteAt file (at + 3))) in
     let eu = sym (entries-count file (byteAt file (at + 5)) (at + 6 + 3 * byteAt file (at + 3) + 3 * byteAt file (at + 4))) in
     let head : Stretch file at (byteAt file at ∷ (wordAt file (at + 1) / 256) ∷ (wordAt file (at + 1) % 256) ∷ length (operationAt file at .needs) ∷ length (operationAt file at .takes) ∷ length (operationAt file at .puts) ∷ []) (at + 6)
-             = subst (λ (l : List ℕ). Stretch file at l (at + 6)) (λ i. byteAt file at ∷ (wordAt file (at + 1) / 256) ∷ (wordAt file (at + 1) % 256) ∷ en i ∷ et i ∷ eu i ∷ []) (six file at small) in
+    = subst (λ (l : List ℕ). Stretch file at l (at + 6)) (λ i. byteAt file at ∷ (wordAt file (at + 1) / 256) ∷ (wordAt file (at + 1) % 256) ∷ en i ∷ et i ∷ eu i ∷ []) (six file at small) in
     moved file at (at + 6 + 3 * n + 3 * t + 3 * u) _ _ (omega arith)
     (then file at (at + 6) _ _ _ head
     (then file (at + 6) (at + 6 + 3 * n) _ _ _ (entries-stretch file n (at + 6))
@@ -166,7 +166,7 @@ operations-stretch file (suc n) at small =
 -- the mark and the counts
 pub head-stretch : (file : List ℕ) → Byte-list file → marked file ≡ true →
     Stretch file 0
-      ((69 ∷ 68 ∷ 80 ∷ 0 ∷ 1 ∷ byteAt file 5 ∷ byteAt file 6 ∷ byteAt file 7 ∷ []) ++ (two (wordAt file 8) ++ (two (wordAt file 10) ++ two (wordAt file 12)))) 14
+    ((69 ∷ 68 ∷ 80 ∷ 0 ∷ 1 ∷ byteAt file 5 ∷ byteAt file 6 ∷ byteAt file 7 ∷ []) ++ (two (wordAt file 8) ++ (two (wordAt file 10) ++ two (wordAt file 12)))) 14
 unfolding bytesAt
 head-stretch file small m =
     let p = and-parts (leb 5 (length file)) _ m .1 in
@@ -185,12 +185,12 @@ head-stretch file small m =
     let l10 = sym (low (byteAt file 10) (byteAt file 11) (small 11)) in
     let h12 = sym (high (byteAt file 12) (byteAt file 13) (small 13)) in
     let l12 = sym (low (byteAt file 12) (byteAt file 13) (small 13)) in
-    record
-      { bytes =
+    record {
+      bytes =
           λ i.
-          e i ∷ d i ∷ u i ∷ v3 i ∷ v4 i ∷ byteAt file 5 ∷ byteAt file 6 ∷ byteAt file 7 ∷ h8 i ∷ l8 i ∷ h10 i ∷ l10 i ∷ h12 i ∷ l12 i ∷ []
-      ; ends = refl
-      }
+          e i ∷ d i ∷ u i ∷ v3 i ∷ v4 i ∷ byteAt file 5 ∷ byteAt file 6 ∷ byteAt file 7 ∷ h8 i ∷ l8 i ∷ h10 i ∷ l10 i ∷ h12 i ∷ l12 i ∷ [];
+      ends = refl;
+    }
 
 steps-count : (file : List ℕ) (n at : ℕ) → length (stepsAt file n at) ≡ n
 unfolding stepsAt
@@ -207,21 +207,22 @@ edition-stretch file small m =
     let eg = sym (bytes-count file (wordAt file 10) (frameOf file .«goal_at»)) in
     let es = sym (steps-count file (wordAt file 12) (frameOf file .«steps_at»)) in
     let head : Stretch file 0 (headBytes (editionOf file (frameOf file))) 14
-             = subst (λ (l : List ℕ). Stretch file 0 l 14)
-               (λ i. (69 ∷ 68 ∷ 80 ∷ 0 ∷ 1 ∷ byteAt file 5 ∷ ep i ∷ eo i ∷ []) ++ (two (ef i) ++ (two (eg i) ++ two (es i))))
-               (head-stretch file small m) in
+    = subst (λ (l : List ℕ). Stretch file 0 l 14)
+    (λ i. (69 ∷ 68 ∷ 80 ∷ 0 ∷ 1 ∷ byteAt file 5 ∷ ep i ∷ eo i ∷ []) ++ (two (ef i) ++ (two (eg i) ++ two (es i))))
+    (head-stretch file small m) in
     then file 0 14 _ _ _ head
     (then file 14 (frameOf file .«operations_at») _ _ _ (predicates-stretch file (byteAt file 6) 14)
     (then file (frameOf file .«operations_at») (frameOf file .«facts_at») _ _ _ (operations-stretch file (byteAt file 7) (frameOf file .«operations_at») small)
     (then file (frameOf file .«facts_at») (frameOf file .«goal_at») _ _ _ (facts-stretch file (wordAt file 8) (frameOf file .«facts_at»))
     (then file (frameOf file .«goal_at») (frameOf file .«steps_at») _ _ _
-      (record { bytes = ap (λ n. bytesAt file n (frameOf file .«goal_at»)) (sym eg); ends = ap (λ n. frameOf file .«goal_at» + n) eg })
-      (steps-stretch file (wordAt file 12) (frameOf file .«steps_at»))))))
+    (record { bytes = ap (λ n. bytesAt file n (frameOf file .«goal_at»)) (sym eg); ends = ap (λ n. frameOf file .«goal_at» + n) eg })
+    (steps-stretch file (wordAt file 12) (frameOf file .«steps_at»))))))
 
 pub frame-is-whole : Frame-is-whole
 frame-is-whole file f small e =
     let a = accepted file f e in
-    let s = edition-stretch file small (a .mark) in
-    ( ap (λ g. editionBytes (editionOf file g)) (a .frame)
-      ∙ whole file (editionBytes (editionOf file (frameOf file))) (moved file 0 (frameOf file .end) (length file) _ (ap (λ g. g .end) (sym (a .frame)) ∙ a .whole) s)
-    , a .short )
+    let s = edition-stretch file small (a .mark) in (
+      ap (λ g. editionBytes (editionOf file g)) (a .frame)
+          ∙ whole file (editionBytes (editionOf file (frameOf file))) (moved file 0 (frameOf file .end) (length file) _ (ap (λ g. g .end) (sym (a .frame)) ∙ a .whole) s),
+      a .short,
+    )

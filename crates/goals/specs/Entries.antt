@@ -33,10 +33,10 @@ entryTexts es = map entryText (entriesOf es)
 
 abbrev pub operationText : Operation → OperationText
 operationText o =
-    record
-      { parameters = o .parameters
-      ; span = o .span .hours
-      ; needs = entryTexts (o .needs)
-      ; takes = entryTexts (o .takes)
-      ; puts = entryTexts (o .puts)
-      }
+    record {
+      parameters = o .parameters;
+      span = o .span .hours;
+      needs = entryTexts (o .needs);
+      takes = entryTexts (o .takes);
+      puts = entryTexts (o .puts);
+    }

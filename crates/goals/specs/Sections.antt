@@ -43,16 +43,16 @@ pub record OperationText : Type 0 where
 
 abbrev pub operationAt : List ℕ → ℕ → OperationText
 operationAt file at =
-    record
-      { parameters = byteAt file at
-      ; span = wordAt file (at + 1)
-      ; needs = entriesAt file (byteAt file (at + 3)) (at + 6)
-      ; takes = entriesAt file (byteAt file (at + 4)) (at + 6 + 3 * byteAt file (at + 3))
-      ; puts = entriesAt file (byteAt file (at + 5)) (at + 6 + 3 * byteAt file (at + 3) + 3 * byteAt file (at + 4))
-      }
+    record {
+      parameters = byteAt file at;
+      span = wordAt file (at + 1);
+      needs = entriesAt file (byteAt file (at + 3)) (at + 6);
+      takes = entriesAt file (byteAt file (at + 4)) (at + 6 + 3 * byteAt file (at + 3));
+      puts = entriesAt file (byteAt file (at + 5)) (at + 6 + 3 * byteAt file (at + 3) + 3 * byteAt file (at + 4));
+    }
 
 unfoldable pub operationsAt : List ℕ → ℕ → ℕ → List OperationText
 operationsAt file zero at = []
 operationsAt file (suc n) at =
     operationAt file at
-      ∷ operationsAt file n (at + 6 + 3 * (byteAt file (at + 3) + byteAt file (at + 4) + byteAt file (at + 5)))
+    ∷ operationsAt file n (at + 6 + 3 * (byteAt file (at + 3) + byteAt file (at + 4) + byteAt file (at + 5)))

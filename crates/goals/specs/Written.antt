@@ -74,14 +74,14 @@ editionBytes e =
 -- what a framed file says
 abbrev pub editionOf : List ℕ → Frame → Edition
 editionOf file f =
-    record
-      { ids = f .ids
-      ; predicates = predicatesAt file (f .predicates) 14
-      ; operations = operationsAt file (f .operations) (f .«operations_at»)
-      ; facts = factsOf file f
-      ; goal = bytesAt file (f .«goal_length») (f .«goal_at»)
-      ; steps = stepsAt file (f .steps) (f .«steps_at»)
-      }
+    record {
+      ids = f .ids;
+      predicates = predicatesAt file (f .predicates) 14;
+      operations = operationsAt file (f .operations) (f .«operations_at»);
+      facts = factsOf file f;
+      goal = bytesAt file (f .«goal_length») (f .«goal_at»);
+      steps = stepsAt file (f .steps) (f .«steps_at»);
+    }
 
 -- every element is a byte
 abbrev pub Byte-list : List ℕ → Type 0
@@ -90,3 +90,9 @@ Byte-list file = (k : ℕ) → byteAt file k < 256
 -- an accepted file is, byte for byte, what it says, written out again, and no longer than 40,000 bytes
 abbrev pub Frame-is-whole : Type 0
 Frame-is-whole = (file : List ℕ) (f : Frame) → Byte-list file → Ok f ≡ framed file → (editionBytes (editionOf file f) ≡ file) × (length file ≤ 40000)
+
+-- and every edition, written out, is accepted unless it is too long, and says just that edition
+abbrev pub Editions-are-framed : Type 0
+Editions-are-framed =
+    (e : Edition) → length (editionBytes e) ≤ 40000 →
+    (f : Frame) × (Ok f ≡ framed (editionBytes e)) × (editionOf (editionBytes e) f ≡ e)

@@ -28,7 +28,10 @@ impl CatalogueRoom {
     pub fn new(heap: Global) -> Result<CatalogueRoom, AllocError> {
         let predicates = Vec::with_capacity(heap, 16)?;
         let operations = Vec::with_capacity(heap, 64)?;
-        Ok(CatalogueRoom { predicates, operations })
+        Ok(CatalogueRoom {
+            predicates,
+            operations,
+        })
     }
 }
 

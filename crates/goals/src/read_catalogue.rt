@@ -38,11 +38,9 @@ fn read_predicates(file: &[u8], count: u8, predicates: &mut Vec<Predicate>) -> b
     requires none { ⌜ vec-len (now predicates) ≡ 0 ⌝ }
     requires room { ⌜ 16 ≤ vec-cap (now predicates) ⌝ }
     requires few { ⌜ count ≤ 16 ⌝ }
-    ensures {
-        λ r. ⌜ When r
+    ensures { λ r. ⌜ When r
         ((map predicateText (vec-items (now (predicates .exit))) ≡ predicatesAt (now (file .entry)) count 14) × (soundPredicates [] (predicatesAt (now (file .entry)) count 14) ≡ true))
-        (soundPredicates [] (predicatesAt (now (file .entry)) count 14) ≡ false) ⌝
-    }
+        (soundPredicates [] (predicatesAt (now (file .entry)) count 14) ≡ false) ⌝ }
 {
     let mut at = PREDICATES_AT;
     for _ in 0..count {
@@ -59,17 +57,22 @@ fn read_predicates(file: &[u8], count: u8, predicates: &mut Vec<Predicate>) -> b
 }
 
 // Reads the operations; else the number of one that breaks a rule.
-fn read_operations(file: &[u8], start: usize, count: u8, ids: u8, predicates: &[Predicate], operations: &mut Vec<Operation>) -> Result<(), u8>
+fn read_operations(
+    file: &[u8],
+    start: usize,
+    count: u8,
+    ids: u8,
+    predicates: &[Predicate],
+    operations: &mut Vec<Operation>,
+) -> Result<(), u8>
     requires none { ⌜ vec-len (now operations) ≡ 0 ⌝ }
     requires room { ⌜ 64 ≤ vec-cap (now operations) ⌝ }
     requires few { ⌜ count ≤ 64 ⌝ }
     requires near { ⌜ start ≤ 40000 ⌝ }
-    ensures {
-        λ r. ⌜ Cases r
+    ensures { λ r. ⌜ Cases r
         (λ _. (map operationText (vec-items (now (operations .exit))) ≡ operationsAt (now (file .entry)) count start)
         × (soundOperations ids (map predicateText (now (predicates .entry))) (operationsAt (now (file .entry)) count start) ≡ true))
-        (λ k. AtFault ids (map predicateText (now (predicates .entry))) (operationsAt (now (file .entry)) count start) k) ⌝
-    }
+        (λ k. AtFault ids (map predicateText (now (predicates .entry))) (operationsAt (now (file .entry)) count start) k) ⌝ }
 {
     let mut at = start;
     for k in 0..count {
@@ -87,27 +90,48 @@ fn counts_in_limits(frame: Frame) -> bool
     ensures { λ r. ⌜ r ≡ soundCounts (frame .ids) (frame .predicates) (frame .operations) ⌝ }
 {
     (frame.ids >= 1 && frame.ids <= MOST_IDS)
-        && ((frame.predicates >= 1 && frame.predicates <= MOST_PREDICATES) && frame.operations <= MOST_OPERATIONS)
+        && ((frame.predicates >= 1 && frame.predicates <= MOST_PREDICATES)
+            && frame.operations <= MOST_OPERATIONS)
 }
 
 const MOST_IDS: u8 = 128;
+
 const MOST_PREDICATES: u8 = 16;
+
 const MOST_OPERATIONS: u8 = 64;
 
 // Reads the catalogue of a framed file: refused with 1 for its counts, predicates and names, then with 2 for an operation.
-pub(crate) fn read_catalogue(file: &[u8], frame: Frame, room: CatalogueRoom) -> Result<Catalogue, CatalogueFault>
+pub(crate) fn read_catalogue(
+    file: &[u8],
+    frame: Frame,
+    room: CatalogueRoom,
+) -> Result<Catalogue, CatalogueFault>
     requires { ⌜ frame .«operations_at» ≤ 40000 ⌝ }
     ensures { λ r. ⌜ Catalogue-says (now (file .entry)) frame r ⌝ }
 {
     if !counts_in_limits(frame) {
         return Err(CatalogueFault::Shape);
     }
-    let CatalogueRoom { mut predicates, mut operations } = room;
+    let CatalogueRoom {
+        mut predicates,
+        mut operations,
+    } = room;
     if !read_predicates(file, frame.predicates, &mut predicates) {
         return Err(CatalogueFault::Shape);
     }
-    if let Err(number) = read_operations(file, frame.operations_at, frame.operations, frame.ids, predicates.as_slice(), &mut operations) {
+    if let Err(number) = read_operations(
+        file,
+        frame.operations_at,
+        frame.operations,
+        frame.ids,
+        predicates.as_slice(),
+        &mut operations,
+    ) {
         return Err(CatalogueFault::Operation(number));
     }
-    Ok(Catalogue { ids: frame.ids, predicates, operations })
+    Ok(Catalogue {
+        ids: frame.ids,
+        predicates,
+        operations,
+    })
 }

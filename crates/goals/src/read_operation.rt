@@ -20,6 +20,7 @@ use crate::predicate::Predicate;
 use crate::time::Span;
 
 const MOST_PARAMETERS: u8 = 3;
+
 const LONGEST_SPAN: u16 = 1000;
 
 // What the entries of an operation are read against: the ids, the operation's parameters, and whether they are needs.
@@ -64,16 +65,18 @@ fn is_negated(byte: u8, need: bool) -> bool
 fn number_of(byte: u8, need: bool) -> u8
     ensures { λ r. ⌜ r ≡ predicateNumber need byte ⌝ }
 {
-    if need && byte >= 128 { byte - 128 } else { byte }
+    if need && byte >= 128 {
+        byte - 128
+    } else {
+        byte
+    }
 }
 
 // The three bytes of an entry at a place.
 fn read_entry(file: &[u8], at: usize, against: Against, predicates: &[Predicate]) -> Option<Entry>
     requires { ⌜ at < 900000 ⌝ }
-    ensures {
-        λ r. ⌜ Cases r (soundEntry (against .needs) (against .ids) (map predicateText (now (predicates .entry))) (against .parameters) (entryAt (now (file .entry)) at) ≡ false)
-        (λ e. (entryText e ≡ entryAt (now (file .entry)) at) × (soundEntry (against .needs) (against .ids) (map predicateText (now (predicates .entry))) (against .parameters) (entryAt (now (file .entry)) at) ≡ true)) ⌝
-    }
+    ensures { λ r. ⌜ Cases r (soundEntry (against .needs) (against .ids) (map predicateText (now (predicates .entry))) (against .parameters) (entryAt (now (file .entry)) at) ≡ false)
+        (λ e. (entryText e ≡ entryAt (now (file .entry)) at) × (soundEntry (against .needs) (against .ids) (map predicateText (now (predicates .entry))) (against .parameters) (entryAt (now (file .entry)) at) ≡ true)) ⌝ }
 {
     let byte = byte_at(file, at);
     let number = number_of(byte, against.needs);
@@ -96,12 +99,16 @@ fn read_entry(file: &[u8], at: usize, against: Against, predicates: &[Predicate]
 }
 
 // So many entries of one kind, one behind the other; more than six are a fault.
-fn read_entries(file: &[u8], at: usize, count: u8, against: Against, predicates: &[Predicate]) -> Option<Entries>
+fn read_entries(
+    file: &[u8],
+    at: usize,
+    count: u8,
+    against: Against,
+    predicates: &[Predicate],
+) -> Option<Entries>
     requires { ⌜ at < 800000 ⌝ }
-    ensures {
-        λ r. ⌜ Cases r (soundEntries (against .needs) (against .ids) (map predicateText (now (predicates .entry))) (against .parameters) (entriesAt (now (file .entry)) count at) ≡ false)
-        (λ es. (entryTexts es ≡ entriesAt (now (file .entry)) count at) × (soundEntries (against .needs) (against .ids) (map predicateText (now (predicates .entry))) (against .parameters) (entriesAt (now (file .entry)) count at) ≡ true)) ⌝
-    }
+    ensures { λ r. ⌜ Cases r (soundEntries (against .needs) (against .ids) (map predicateText (now (predicates .entry))) (against .parameters) (entriesAt (now (file .entry)) count at) ≡ false)
+        (λ es. (entryTexts es ≡ entriesAt (now (file .entry)) count at) × (soundEntries (against .needs) (against .ids) (map predicateText (now (predicates .entry))) (against .parameters) (entriesAt (now (file .entry)) count at) ≡ true)) ⌝ }
 {
     let count = usize::from(count);
     if count > MOST_ENTRIES {
@@ -125,12 +132,15 @@ const UNUSED: Entry = Entry {
 };
 
 // The operation at a place, or nothing if it breaks a rule.
-pub(crate) fn read_operation(file: &[u8], at: usize, ids: u8, predicates: &[Predicate]) -> Option<Operation>
+pub(crate) fn read_operation(
+    file: &[u8],
+    at: usize,
+    ids: u8,
+    predicates: &[Predicate],
+) -> Option<Operation>
     requires { ⌜ at < 700000 ⌝ }
-    ensures {
-        λ r. ⌜ Cases r (soundOperation ids (map predicateText (now (predicates .entry))) (operationAt (now (file .entry)) at) ≡ false)
-        (λ o. (operationText o ≡ operationAt (now (file .entry)) at) × (soundOperation ids (map predicateText (now (predicates .entry))) (operationAt (now (file .entry)) at) ≡ true)) ⌝
-    }
+    ensures { λ r. ⌜ Cases r (soundOperation ids (map predicateText (now (predicates .entry))) (operationAt (now (file .entry)) at) ≡ false)
+        (λ o. (operationText o ≡ operationAt (now (file .entry)) at) × (soundOperation ids (map predicateText (now (predicates .entry))) (operationAt (now (file .entry)) at) ≡ true)) ⌝ }
 {
     let parameters = byte_at(file, at);
     let span = word_at(file, at + 1);
@@ -141,8 +151,22 @@ pub(crate) fn read_operation(file: &[u8], at: usize, ids: u8, predicates: &[Pred
     let take_count = byte_at(file, at + 4);
     let takes_at = at + 6 + 3 * usize::from(need_count);
     let puts_at = takes_at + 3 * usize::from(take_count);
-    let against = Against { ids, parameters, needs: false };
-    let Some(needs) = read_entries(file, at + 6, need_count, Against { ids, parameters, needs: true }, predicates) else {
+    let against = Against {
+        ids,
+        parameters,
+        needs: false,
+    };
+    let Some(needs) = read_entries(
+        file,
+        at + 6,
+        need_count,
+        Against {
+            ids,
+            parameters,
+            needs: true,
+        },
+        predicates,
+    ) else {
         return None;
     };
     let Some(takes) = read_entries(file, takes_at, take_count, against, predicates) else {

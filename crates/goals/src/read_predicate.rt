@@ -33,10 +33,8 @@ fn in_limits(places: u8, length: usize) -> bool
 // The predicate at a place, or nothing if its places or its name break a rule.
 pub(crate) fn read_predicate(file: &[u8], at: usize) -> Option<Predicate>
     requires { ⌜ at < 900000 ⌝ }
-    ensures {
-        λ r. ⌜ Cases r (soundPredicate (predicateAt (now (file .entry)) at) ≡ false)
-        (λ p. (predicateText p ≡ predicateAt (now (file .entry)) at) × (soundPredicate (predicateAt (now (file .entry)) at) ≡ true) × (p .length ≤ 16) × (p .length ≡ byteAt (now (file .entry)) (at + 1))) ⌝
-    }
+    ensures { λ r. ⌜ Cases r (soundPredicate (predicateAt (now (file .entry)) at) ≡ false)
+        (λ p. (predicateText p ≡ predicateAt (now (file .entry)) at) × (soundPredicate (predicateAt (now (file .entry)) at) ≡ true) × (p .length ≤ 16) × (p .length ≡ byteAt (now (file .entry)) (at + 1))) ⌝ }
 {
     let places = byte_at(file, at);
     let length = usize::from(byte_at(file, at + 1));
@@ -51,5 +49,9 @@ pub(crate) fn read_predicate(file: &[u8], at: usize) -> Option<Predicate>
         }
         name[k] = byte;
     }
-    Some(Predicate { places, name, length })
+    Some(Predicate {
+        places,
+        name,
+        length,
+    })
 }

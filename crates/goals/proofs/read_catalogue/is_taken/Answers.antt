@@ -14,8 +14,8 @@ pub returns : need.returns
 returns c =
     let n : c .args .predicate .now .length - 0 ≡ min (c .args .predicate .now .length) 16 = omega (arith, c .pre .short) in
     c .is-some .ensures
-    ∙ ( meaning-known (c .find .result)
-    ∙ ( ap is-known (sym (c .find .ensures))
-    ∙ ( ap (λ l. is-known (find-from 0 l (take (c .args .predicate .now .length - 0) (c .args .predicate .now .name)))) (take-all 256 (c .args .predicates .now) (c .pre .few))
-    ∙ ( known-taken 0 (c .args .predicates .now) (take (c .args .predicate .now .length - 0) (c .args .predicate .now .name))
-    ∙ ap (λ k. taken (take k (c .args .predicate .now .name)) (map predicateText (c .args .predicates .now))) n ))))
+    ∙ (meaning-known (c .find .result)
+    ∙ (ap is-known (sym (c .find .ensures))
+    ∙ (ap (λ l. is-known (find-from 0 l (take (c .args .predicate .now .length - 0) (c .args .predicate .now .name)))) (take-all 256 (c .args .predicates .now) (c .pre .few))
+    ∙ (known-taken 0 (c .args .predicates .now) (take (c .args .predicate .now .length - 0) (c .args .predicate .now .name))
+    ∙ ap (λ k. taken (take k (c .args .predicate .now .name)) (map predicateText (c .args .predicates .now))) n))))

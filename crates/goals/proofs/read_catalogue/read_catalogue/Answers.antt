@@ -18,11 +18,16 @@ ghost-result c =
     let p = c .if-not-read-predicates .ensures tt in
     let o = c .in-rest .ensures tt in
     let np : vec-len ps ≡ c .args .frame .predicates
-           = ps .ok .0 ∙ (sym (length-map (vec-items ps) predicateText) ∙ (ap length (p .0) ∙ predicates-count (c .args .file .now) (c .args .frame .predicates) 14)) in
+    = ps .ok .0 ∙ (sym (length-map (vec-items ps) predicateText) ∙ (ap length (p .0) ∙ predicates-count (c .args .file .now) (c .args .frame .predicates) 14)) in
     let no : vec-len os ≡ c .args .frame .operations
-           = os .ok .0 ∙ (sym (length-map (vec-items os) operationText) ∙ (ap length (o .0) ∙ operations-count (c .args .file .now) (c .args .frame .operations) (c .args .frame .«operations_at»))) in
-    ( ap₂ (soundCounts (c .args .frame .ids)) np no ∙ sym (c .if-not-counts-in-limits .ensures tt)
-    , ( ap (soundPredicates []) (p .0) ∙ p .1
-      , ( ap (soundOperations (c .args .frame .ids) (map predicateText (vec-items ps))) (o .0)
-          ∙ (ap (λ l. soundOperations (c .args .frame .ids) (map predicateText l) (operationsAt (c .args .file .now) (c .args .frame .operations) (c .args .frame .«operations_at»))) (sym (c .as-slice .ensures .value)) ∙ o .1)
-        , tt ) ) )
+    = os .ok .0 ∙ (sym (length-map (vec-items os) operationText) ∙ (ap length (o .0) ∙ operations-count (c .args .file .now) (c .args .frame .operations) (c .args .frame .«operations_at»))) in (
+      ap₂ (soundCounts (c .args .frame .ids)) np no ∙ sym (c .if-not-counts-in-limits .ensures tt),
+      (
+        ap (soundPredicates []) (p .0) ∙ p .1,
+        (
+          ap (soundOperations (c .args .frame .ids) (map predicateText (vec-items ps))) (o .0)
+              ∙ (ap (λ l. soundOperations (c .args .frame .ids) (map predicateText l) (operationsAt (c .args .file .now) (c .args .frame .operations) (c .args .frame .«operations_at»))) (sym (c .as-slice .ensures .value)) ∙ o .1),
+          tt,
+        ),
+      ),
+    )

@@ -12,5 +12,5 @@ abbrev pub Inv-loop-k : given.InvT-loop-k
 Inv-loop-k l =
     (map entryText (take (l .k) (l .items)) ≡ entriesAt (l .file) (l .k) (l .at))
     × (soundEach (l .against .needs) (l .against .ids) (map predicateText (l .predicates)) (l .against .parameters) (entriesAt (l .file) (l .count) (l .at))
-      ≡ soundEach (l .against .needs) (l .against .ids) (map predicateText (l .predicates)) (l .against .parameters) (entriesAt (l .file) (l .count - l .k) (l .at + 3 * l .k)))
+    ≡ soundEach (l .against .needs) (l .against .ids) (map predicateText (l .predicates)) (l .against .parameters) (entriesAt (l .file) (l .count - l .k) (l .at + 3 * l .k)))
     × (length (l .items) ≡ 6)

@@ -9,5 +9,12 @@ pub mod Written
 pub mod CatalogueRules
 pub mod Entries
 pub mod CatalogueMeaning
-pub mod CatalogueNumbers
 pub mod CatalogueReading
+pub mod Syntax
+pub mod Grammar
+pub mod Scopes
+pub mod Tree
+pub mod Conditions
+pub mod Reading
+pub mod GoalFaults
+pub mod FaultNumbers

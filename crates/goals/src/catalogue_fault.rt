@@ -1,5 +1,5 @@
 ghost use mathlib.Core.Path.{_≡_};
-ghost use Rattle.goals.specs.CatalogueNumbers.{numberOf};
+ghost use Rattle.goals.specs.FaultNumbers.{catalogueNumber};
 
 // Why a catalogue is refused.
 #[derive(Clone, Copy)]
@@ -12,7 +12,7 @@ pub enum CatalogueFault {
 
 impl CatalogueFault {
     pub fn number(self) -> u8
-        ensures { λ r. ⌜ r ≡ numberOf self ⌝ }
+        ensures { λ r. ⌜ r ≡ catalogueNumber self ⌝ }
     {
         match self {
             CatalogueFault::Shape => 1,

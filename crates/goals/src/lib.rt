@@ -1,15 +1,20 @@
-// Edition files: their frame, the facts in them, and filling a register with those facts.
+// Edition files: their frame, the catalogue and the goal in them, and filling a register with their facts.
 mod bytes;
 pub mod catalogue;
 pub mod catalogue_fault;
 pub mod exact;
 pub mod facts;
 pub mod file_fault;
-pub mod fill;
+pub mod fill_fault;
 pub mod frame;
+pub mod goal;
+pub mod goal_fault;
+pub mod job_fault;
 pub mod operation;
 pub mod predicate;
+mod put_facts;
 mod read_catalogue;
 mod read_operation;
 mod read_predicate;
+mod scope;
 pub mod time;

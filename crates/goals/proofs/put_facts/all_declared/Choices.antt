@@ -1,7 +1,7 @@
 use mathlib.Core.Path.{_≡_}
 use lib.ListN.{drop}
 use Rattle.goals.specs.Filling.{allDeclared}
-use Rattle.goals.proofs.fill.all_declared.Given as given
+use Rattle.goals.proofs.put_facts.all_declared.Given as given
 
 abbrev pub Inv-loop-k : given.InvT-loop-k
 Inv-loop-k g l =

@@ -5,8 +5,8 @@ use Rattle.std.proofs.shelf.Lists.{drop-all}
 use Rattle.registers.proofs.ListLaws.{drop-past}
 use Rattle.goals.specs.Filling.{allDeclared}
 use Rattle.goals.proofs.FillSteps.{declared-drop, declared-none}
-use Rattle.goals.proofs.fill.all_declared.Needs as need
-use Rattle.goals.proofs.fill.all_declared.Needs.{in-Some·else-not-is-declared, in-rest}
+use Rattle.goals.proofs.put_facts.all_declared.Needs as need
+use Rattle.goals.proofs.put_facts.all_declared.Needs.{in-Some·else-not-is-declared, in-rest}
 
 pub returns-then-not-is-declared : need.returns-then-not-is-declared
 returns-then-not-is-declared g c =

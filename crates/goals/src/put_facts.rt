@@ -1,36 +1,33 @@
 ghost use mathlib.Core.Path.{_≡_};
 ghost use Prim.Native.Nat.{_≤_};
-ghost use lib.ListN.{length};
-ghost use Rattle.goals.specs.Frame.{predicatesEnd};
-ghost use Rattle.goals.specs.Filling.{declared, allDeclared, filled, idFits, meaningAfter, placesOf};
+ghost use Rattle.goals.specs.Filling.{declared, allDeclared, factsAnswer, afterFacts, idFits};
 use crate::bytes::byte_at;
 use crate::facts::FileFactList;
 use crate::facts::FileFacts;
-use crate::file_fault::FillFault;
-use crate::file_fault::FillFaultFromFrame;
-use crate::file_fault::FillFaultFromRefusal;
 use crate::frame::Frame;
 use crate::frame::end_of_predicates;
-use crate::frame::read_frame;
 use registers::fact::Fact;
 use registers::fact_list::FactList;
 use registers::put_all::put_all;
 use registers::refusal::Refusal;
 use registers::register::Register;
 
-// Puts every fact of an edition file into a register, whatever it holds already, or none: refused with 18 or 19 for the
-// file's frame, with 8 for a fact out of bounds, then with 9 if the register would pass its limit.
-pub fn fill<R: Register>(register: &mut R, file: &[u8]) -> Result<Frame, FillFault>
-    ensures answer { λ r. ⌜ r ≡ filled (R·Register .meaning (now (register .entry))) (now (file .entry)) ⌝ }
-    ensures after { λ r. ⌜ R·Register .meaning (now (register .exit)) ≡ meaningAfter (R·Register .meaning (now (register .entry))) (now (file .entry)) r ⌝ }
+// Puts every fact of a framed file into a register, whatever it holds already, or none: refused with 8 for a fact out of
+// bounds, then with 9 if the register would pass its limit.
+pub(crate) fn put_facts<R: Register>(
+    register: &mut R,
+    file: &[u8],
+    frame: Frame,
+) -> Result<(), Refusal>
+    requires { ⌜ frame .«facts_at» ≤ 40000 ⌝ }
+    ensures answer { λ r. ⌜ r ≡ factsAnswer (R·Register .meaning (now (register .entry))) (now (file .entry)) frame ⌝ }
+    ensures after { λ r. ⌜ R·Register .meaning (now (register .exit)) ≡ afterFacts (R·Register .meaning (now (register .entry))) (now (file .entry)) frame r ⌝ }
 {
-    let frame = read_frame(file)?;
     let facts = FileFacts::new(file, frame.facts_at, frame.facts);
     if !all_declared(file, frame, &facts) {
-        return Err(FillFault::Register(Refusal::OutOfBounds));
+        return Err(Refusal::OutOfBounds);
     }
-    put_all(register, &facts)?;
-    Ok(frame)
+    put_all(register, &facts)
 }
 
 // Does the file's catalogue allow every fact?

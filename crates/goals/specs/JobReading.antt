@@ -22,6 +22,8 @@ use Rattle.goals.specs.Frame.{framed}
 use Rattle.goals.specs.Filling.{factsOf, factsAnswer}
 use Rattle.goals.specs.CatalogueMeaning.{predicatesOf, operationsOf, shapeSound, AtFault}
 use Rattle.goals.specs.CatalogueReading.{Spelled}
+use Rattle.goals.specs.Syntax.{Formula}
+use Rattle.goals.specs.Reading.{read}
 use Rattle.goals.specs.GoalFaults.{told}
 use Rattle.goals.specs.GoalClaims.{Goal-read}
 use Rattle.goals.specs.JobText.{goalText, wordsOf, goalOutcome, operationsSound}
@@ -54,9 +56,16 @@ abbrev pub Job-says : List ℕ → Result code.Job FileFault → Type 0
 Job-says file (Ok j) = (f : Frame) × (Ok f ≡ framed file) × Job-read file f j
 Job-says file (Err e) = File-fault file e
 
+-- nothing is at fault in a framed file before its facts
+pub record Free-of-faults (file : List ℕ) (f : Frame) : Type 0 where
+  pub shape : shapeSound file f ≡ true
+  pub operations : operationsSound file f ≡ true
+  pub formula : Formula
+  pub goal : goalOutcome file f ≡ read formula
+
 -- a filling: the file's fault; or else what its facts are answered; accepted, every fact of the file is in afterwards, and refused, nothing has changed
 abbrev pub Fill-says : Meaning → Meaning → List ℕ → Result code.Job FillFault → Type 0
 Fill-says m n file (Ok j) = (f : Frame) × (Ok f ≡ framed file) × Job-read file f j × (factsAnswer m file f ≡ Ok tt) × (n ≡ includingAll m (factsOf file f))
 Fill-says m n file (Err (File e)) = File-fault file e × (n ≡ m)
 Fill-says m n file (Err (Register r)) =
-    (f : Frame) × (Ok f ≡ framed file) × (shapeSound file f ≡ true) × (operationsSound file f ≡ true) × (factsAnswer m file f ≡ Err r) × (n ≡ m)
+    (f : Frame) × (Ok f ≡ framed file) × Free-of-faults file f × (factsAnswer m file f ≡ Err r) × (n ≡ m)

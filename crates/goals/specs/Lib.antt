@@ -18,3 +18,11 @@ pub mod Conditions
 pub mod Reading
 pub mod GoalFaults
 pub mod FaultNumbers
+pub mod Seen
+pub mod Layout
+pub mod Promises
+pub mod GoalTable
+pub mod GoalClaims
+pub mod JobText
+pub mod JobReading
+pub mod Placing

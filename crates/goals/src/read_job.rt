@@ -1,4 +1,6 @@
 ghost use mathlib.Core.Path.{_≡_};
+ghost use Prim.Native.Nat.{_-_, _≤_};
+ghost use lib.ListN.{length, take, drop};
 ghost use Rattle.std.specs.declared.result.Result.the-variants.{Ok, Err};
 ghost use Rattle.goals.specs.Frame.{framed};
 ghost use Rattle.goals.specs.JobReading.{Framed-says, Both-says, Job-says, Fill-says};
@@ -29,6 +31,15 @@ pub(crate) struct FramedJob {
     pub job: Job,
 }
 
+// The bytes from one place to another.
+fn part(file: &[u8], start: usize, end: usize) -> &[u8]
+    requires ordered { ⌜ start ≤ end ⌝ }
+    requires inside { ⌜ end ≤ length (now file) ⌝ }
+    ensures { λ r. ⌜ now r ≡ take (end - start) (drop start (now (file .entry))) ⌝ }
+{
+    &file[start..end]
+}
+
 // The job of a framed file: its catalogue, then its goal.
 fn job_of(file: &[u8], frame: Frame, room: JobRoom) -> Result<Job, JobFault>
     requires { ⌜ Ok frame ≡ framed (now file) ⌝ }
@@ -36,8 +47,13 @@ fn job_of(file: &[u8], frame: Frame, room: JobRoom) -> Result<Job, JobFault>
 {
     let JobRoom { catalogue, goal } = room;
     let catalogue = read_catalogue(file, frame, catalogue)?;
-    let text = &file[frame.goal_at..frame.steps_at];
-    let goal = read_goal(text, u16::from(catalogue.ids), catalogue.predicates.as_slice(), goal)?;
+    let text = part(file, frame.goal_at, frame.steps_at);
+    let goal = read_goal(
+        text,
+        u16::from(catalogue.ids),
+        catalogue.predicates.as_slice(),
+        goal,
+    )?;
     Ok(Job { catalogue, goal })
 }
 

@@ -1,5 +1,6 @@
 ghost use mathlib.Core.Path.{_≡_};
 ghost use mathlib.Core.Bool.{not};
+ghost use Prim.Native.Nat.{_<_};
 ghost use Rattle.goals.specs.Scopes.{variable-of, bind, newest, has-room, binding, deeper};
 use crate::goal::Variable;
 
@@ -79,6 +80,17 @@ impl Letters {
 }
 
 impl Scope {
+    // The scope inside a bracket.
+    pub fn deeper(self) -> Scope
+        requires { ⌜ self .depth < 16 ⌝ }
+        ensures { λ r. ⌜ r ≡ deeper self ⌝ }
+    {
+        Scope {
+            letters: self.letters,
+            depth: self.depth + 1,
+        }
+    }
+
     // The scope behind a quantifier.
     pub fn binding(self, letter: u8) -> Scope
         ensures { λ r. ⌜ r ≡ binding self letter ⌝ }

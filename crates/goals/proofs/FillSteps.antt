@@ -1,4 +1,4 @@
--- The facts of a file by their index, and what filling comes to in each of its cases.
+-- The facts of a file by their index, and what putting them comes to in each of its cases.
 use mathlib.Core.Path.{_≡_, refl, sym, ap, _∙_}
 use mathlib.Core.Bool.{Bool, true, false, cond, not, _&&_}
 use mathlib.Core.List.{List, [], _∷_}
@@ -18,11 +18,7 @@ use Rattle.registers.specs.declared.refusal.Refusal.the-variants.{OutOfBounds}
 use Rattle.registers.specs.Meaning.{Meaning, includingAll, putAllAnswer, afterPutAll}
 use Rattle.registers.proofs.ListLaws.{drop-at-index}
 use Rattle.goals.specs.declared.frame.Frame.{Frame}
-use Rattle.goals.specs.declared.file_fault.FrameFault.{FrameFault}
-use Rattle.goals.specs.declared.file_fault.FillFault.{FillFault}
-use Rattle.goals.specs.declared.file_fault.FillFault.the-variants.{File, Register}
-use Rattle.goals.specs.Frame.{framed}
-use Rattle.goals.specs.Filling.{factAt, factsAt, factsOf, declared, allDeclared, withFrame, fillAnswer, afterFraming, filled, meaningAfter}
+use Rattle.goals.specs.Filling.{factAt, factsAt, factsOf, declared, allDeclared, factsAnswer, afterFacts}
 
 pub facts-count : (file : List ℕ) (n at : ℕ) → length (factsAt file n at) ≡ n
 unfolding factsAt
@@ -54,29 +50,17 @@ pub declared-none : (file : List ℕ) (f : Frame) → allDeclared file f [] ≡ 
 unfolding allDeclared
 declared-none file f = refl
 
--- the cases of filling
+-- the cases of putting them
 
-pub fill-unframed : (m : Meaning) (file : List ℕ) (e : FrameFault) → Err e ≡ framed file → Err (File e) ≡ filled m file
-unfolding filled
-fill-unframed m file e h = ap (afterFraming m file) h
+pub facts-undeclared : (m : Meaning) (file : List ℕ) (f : Frame) → allDeclared file f (factsOf file f) ≡ false → Err OutOfBounds ≡ factsAnswer m file f
+unfolding factsAnswer
+facts-undeclared m file f d = sym (cond-false (allDeclared file f (factsOf file f)) _ _ d)
 
-module _ (m : Meaning) (file : List ℕ) (f : Frame) (h : Ok f ≡ framed file) where
-  from-frame : fillAnswer m file f ≡ filled m file
-  unfolding filled
-  from-frame = ap (afterFraming m file) h
+pub facts-put : (m : Meaning) (file : List ℕ) (f : Frame) → allDeclared file f (factsOf file f) ≡ true → putAllAnswer m (factsOf file f) ≡ factsAnswer m file f
+unfolding factsAnswer
+facts-put m file f d = sym (cond-true (allDeclared file f (factsOf file f)) _ _ d)
 
-  pub fill-undeclared : allDeclared file f (factsOf file f) ≡ false → Err (Register OutOfBounds) ≡ filled m file
-  unfolding fillAnswer
-  fill-undeclared d = sym (cond-false (allDeclared file f (factsOf file f)) _ _ d) ∙ from-frame
-
-  pub fill-put : (r : Result (Unit {0}) Refusal) → allDeclared file f (factsOf file f) ≡ true → r ≡ putAllAnswer m (factsOf file f) → withFrame f r ≡ filled m file
-  unfolding fillAnswer
-  fill-put r d e = ap (withFrame f) e ∙ (sym (cond-true (allDeclared file f (factsOf file f)) _ _ d) ∙ from-frame)
-
-pub put-accepted : (m : Meaning) (fs : List Fact) → Ok tt ≡ putAllAnswer m fs → afterPutAll m fs ≡ includingAll m fs
+pub facts-after : (m : Meaning) (file : List ℕ) (f : Frame) (r : Result (Unit {0}) Refusal) → r ≡ putAllAnswer m (factsOf file f) → afterPutAll m (factsOf file f) ≡ afterFacts m file f r
 unfolding afterPutAll
-put-accepted m fs e = ap (λ r. cond (isOk r) (includingAll m fs) m) (sym e)
-
-pub put-refused : (m : Meaning) (fs : List Fact) (r : Refusal) → Err r ≡ putAllAnswer m fs → afterPutAll m fs ≡ m
-unfolding afterPutAll
-put-refused m fs r e = ap (λ x. cond (isOk x) (includingAll m fs) m) (sym e)
+facts-after m file f (Ok u) e = ap (λ r. cond (isOk r) (includingAll m (factsOf file f)) m) (sym e)
+facts-after m file f (Err x) e = ap (λ r. cond (isOk r) (includingAll m (factsOf file f)) m) (sym e)

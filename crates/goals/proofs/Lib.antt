@@ -1,2 +1,23 @@
 pub mod FrameSteps
 pub mod FillSteps
+pub mod Finding
+pub mod EntrySteps
+pub mod PredicateSteps
+pub mod OperationSteps
+pub mod Stretches
+pub mod Decoding
+mod Examples
+pub mod Lexing
+pub mod Adding
+pub mod Moves
+pub mod Terms
+pub mod Heads
+pub mod Endings
+pub mod Prefixes
+pub mod Making
+pub mod Going
+pub mod Ring
+pub mod Unfolding
+pub mod Ordered
+pub mod Whole
+pub mod JobSteps

@@ -1,5 +1,4 @@
--- Filling a register from an edition file: which facts the file lists, which of them its catalogue allows, and what comes of it.
--- Either every fact of the file is put or, refused, none.
+-- The facts of an edition file: which it lists, which of them its catalogue allows, and what putting them all answers.
 use mathlib.Core.List.{List, [], _∷_}
 use mathlib.Core.Bool.{Bool, true, false, cond, not, _&&_}
 use Prim.Native.Nat.{ℕ, zero, suc, _+_}
@@ -10,14 +9,9 @@ use Rattle.registers.specs.declared.fact.Fact.{Fact}
 use Rattle.registers.specs.declared.refusal.Refusal.{Refusal}
 use Rattle.registers.specs.declared.refusal.Refusal.the-variants.{OutOfBounds, Full}
 use Rattle.registers.specs.Meaning.{Meaning, includingAll, putAllAnswer}
-use Rattle.registers.specs.Numbers as registers
 use Rattle.goals.specs.declared.frame.Frame.{Frame}
-use Rattle.goals.specs.declared.file_fault.FrameFault.{FrameFault}
-use Rattle.goals.specs.declared.file_fault.FillFault.{FillFault}
-use Rattle.goals.specs.declared.file_fault.FillFault.the-variants.{File, Register}
 use Rattle.goals.specs.Bytes.{byteAt}
-use Rattle.goals.specs.Frame.{predicatesEnd, framed}
-use Rattle.goals.specs.Frame as frame
+use Rattle.goals.specs.Frame.{predicatesEnd}
 
 -- the three bytes at a place: predicate, first id, second id
 abbrev pub factAt : List ℕ → ℕ → Fact
@@ -50,30 +44,11 @@ unfoldable pub allDeclared : List ℕ → Frame → List Fact → Bool
 allDeclared file f [] = true
 allDeclared file f (x ∷ xs) = declared file f x && allDeclared file f xs
 
--- what putting the facts answers, with the frame where it was accepted
-abbrev pub withFrame : Frame → Result (Unit {0}) Refusal → Result Frame FillFault
-withFrame f (Ok u) = Ok f
-withFrame f (Err r) = Err (Register r)
-
--- what filling from a framed file answers: first the catalogue's bounds of each fact, then the register's, then its limit
-unfoldable pub fillAnswer : Meaning → List ℕ → Frame → Result Frame FillFault
-fillAnswer m file f =
-    cond (allDeclared file f (factsOf file f)) (withFrame f (putAllAnswer m (factsOf file f))) (Err (Register OutOfBounds))
-
--- what filling from a file answers: first the fault of the frame
-abbrev pub afterFraming : Meaning → List ℕ → Result Frame FrameFault → Result Frame FillFault
-afterFraming m file (Ok f) = fillAnswer m file f
-afterFraming m file (Err e) = Err (File e)
-
-unfoldable pub filled : Meaning → List ℕ → Result Frame FillFault
-filled m file = afterFraming m file (framed file)
+-- what putting the facts of a framed file answers: first the catalogue's bounds of each fact, then the register's, then its limit
+unfoldable pub factsAnswer : Meaning → List ℕ → Frame → Result (Unit {0}) Refusal
+factsAnswer m file f = cond (allDeclared file f (factsOf file f)) (putAllAnswer m (factsOf file f)) (Err OutOfBounds)
 
 -- accepted, every fact of the file is in; refused, nothing has changed
-abbrev pub meaningAfter : Meaning → List ℕ → Result Frame FillFault → Meaning
-meaningAfter m file (Ok f) = includingAll m (factsOf file f)
-meaningAfter m file (Err e) = m
-
--- the number of a refusal to fill
-abbrev pub numberOf : FillFault → ℕ
-numberOf (File e) = frame.numberOf e
-numberOf (Register r) = registers.numberOf r
+abbrev pub afterFacts : Meaning → List ℕ → Frame → Result (Unit {0}) Refusal → Meaning
+afterFacts m file f (Ok u) = includingAll m (factsOf file f)
+afterFacts m file f (Err r) = m

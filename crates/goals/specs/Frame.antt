@@ -61,8 +61,3 @@ lengthChecked n f =
 -- what framing a file gives: first the mark and the version, then the length
 unfoldable pub framed : List ℕ → Result Frame FrameFault
 framed file = cond (marked file) (lengthChecked (length file) (frameOf file)) (Err Mark)
-
--- the number of a fault of the frame
-abbrev pub numberOf : FrameFault → ℕ
-numberOf Mark = 18
-numberOf (Length place) = 19

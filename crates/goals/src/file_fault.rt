@@ -1,8 +1,8 @@
 ghost use mathlib.Core.Path.{_≡_};
-ghost use Rattle.goals.specs.Frame.{numberOf as frameNumber};
-ghost use Rattle.goals.specs.Filling.{numberOf as fillNumber};
-ghost use Rattle.goals.specs.declared.file_fault.FillFault.the-variants.{File, Register};
-use registers::refusal::Refusal;
+ghost use Rattle.goals.specs.FaultNumbers.{frameNumber, fileNumber, placeInFile};
+ghost use Rattle.goals.specs.declared.file_fault.FileFault.the-variants.{Frame, Job};
+use crate::goal_fault::GoalFault;
+use crate::job_fault::JobFault;
 
 // Why a file has no frame.
 #[derive(Clone, Copy)]
@@ -24,38 +24,43 @@ impl FrameFault {
     }
 }
 
-// Why a register was not filled from a file.
+// Why no job was read from a file: its frame is at fault, or its job, whose goal text begins at the place beside it.
 #[derive(Clone, Copy)]
-pub enum FillFault {
-    // The file itself is at fault.
-    File(FrameFault),
-    // A fact is out of bounds, or the register would pass its limit.
-    Register(Refusal),
+pub enum FileFault {
+    Frame(FrameFault),
+    Job(JobFault, usize),
 }
 
-impl FillFault {
+// A fault of a job with the place in the file at which its goal text begins.
+#[derive(Clone, Copy)]
+pub struct PlacedFault {
+    pub fault: JobFault,
+    pub goal_at: usize,
+}
+
+impl FileFault {
     pub fn number(self) -> u8
-        ensures { λ r. ⌜ r ≡ fillNumber self ⌝ }
+        ensures { λ r. ⌜ r ≡ fileNumber self ⌝ }
     {
         match self {
-            FillFault::File(fault) => fault.number(),
-            FillFault::Register(refusal) => refusal.number(),
+            FileFault::Frame(fault) => fault.number(),
+            FileFault::Job(fault, _) => fault.number(),
         }
     }
 }
 
-pub impl From<FrameFault> for FillFault as FillFaultFromFrame {
-    ghost converts = { λ x y. y ≡ File x };
+pub impl From<FrameFault> for FileFault as FileFaultFromFrame {
+    ghost converts = { λ x y. y ≡ Frame x };
 
-    fn from(value: FrameFault) -> FillFault {
-        FillFault::File(value)
+    fn from(value: FrameFault) -> FileFault {
+        FileFault::Frame(value)
     }
 }
 
-pub impl From<Refusal> for FillFault as FillFaultFromRefusal {
-    ghost converts = { λ x y. y ≡ Register x };
+pub impl From<PlacedFault> for FileFault as FileFaultFromPlaced {
+    ghost converts = { λ x y. y ≡ Job (x .fault) (x .«goal_at») };
 
-    fn from(value: Refusal) -> FillFault {
-        FillFault::Register(value)
+    fn from(value: PlacedFault) -> FileFault {
+        FileFault::Job(value.fault, value.goal_at)
     }
 }

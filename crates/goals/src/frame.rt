@@ -110,7 +110,7 @@ fn end_of_operations(file: &[u8], count: u8, start: usize) -> usize
 }
 
 // How many entries the operation at a place has: its needs, takes and puts.
-fn entries(file: &[u8], at: usize) -> usize
+pub(crate) fn entries(file: &[u8], at: usize) -> usize
     requires { ⌜ at < 1000000 ⌝ }
     ensures value { λ r. ⌜ r ≡ byteAt (now (file .entry)) (at + 3) + byteAt (now (file .entry)) (at + 4) + byteAt (now (file .entry)) (at + 5) ⌝ }
     ensures bound { λ r. ⌜ r ≤ 765 ⌝ }

@@ -1,6 +1,29 @@
-// Edition files: their frame, the facts in them, and filling a register with those facts.
+// Edition files: their frame, the catalogue and the goal in them, and filling a register with their facts.
 mod bytes;
+pub mod catalogue;
+pub mod catalogue_fault;
+pub mod exact;
 pub mod facts;
 pub mod file_fault;
-pub mod fill;
+pub mod fill_fault;
 pub mod frame;
+pub mod goal;
+pub mod goal_fault;
+pub mod job;
+pub mod job_fault;
+mod number;
+pub mod operation;
+mod parts;
+pub mod predicate;
+mod progress;
+mod put_facts;
+mod read_catalogue;
+pub mod read_job;
+mod read_operation;
+mod read_predicate;
+pub mod reader;
+mod scope;
+mod steps;
+pub mod time;
+mod token;
+mod words;

@@ -26,3 +26,4 @@ pub mod GoalClaims
 pub mod JobText
 pub mod JobReading
 pub mod Placing
+pub mod JobView

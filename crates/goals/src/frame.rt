@@ -8,7 +8,7 @@ use crate::bytes::word_at;
 use crate::file_fault::FrameFault;
 
 // No edition file is longer.
-const LONGEST_FILE: usize = 40000;
+pub const LONGEST_FILE: usize = 40000;
 
 // Where the first section, that of the predicates, begins.
 pub const PREDICATES_AT: usize = 14;

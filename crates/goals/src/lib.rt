@@ -11,6 +11,7 @@ pub mod goal;
 pub mod goal_fault;
 pub mod job;
 pub mod job_fault;
+pub mod job_view;
 mod number;
 pub mod operation;
 mod parts;

@@ -1,0 +1,7 @@
+use mathlib.Core.Path.{refl, _∙_}
+use Rattle.goals.specs.JobView.{idsOf}
+use Rattle.goals.proofs.job.Job.ids.Needs as need
+
+pub returns : need.returns
+unfolding idsOf
+returns c = c .from .ensures

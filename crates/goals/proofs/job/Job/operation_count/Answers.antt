@@ -1,0 +1,7 @@
+use mathlib.Core.Path.{refl, _∙_}
+use Rattle.goals.specs.JobView.{operationsIn}
+use Rattle.goals.proofs.job.Job.operation_count.Needs as need
+
+pub returns : need.returns
+unfolding operationsIn
+returns c = c .len .ensures ∙ c .args .self .now .catalogue .operations .ok .0

@@ -62,14 +62,14 @@ unfolding move
 star-step here passed m lo = step here (upper m lo) refl refl passed
 
 -- no ends stand here
-pub no-ends : (V : Vocabulary) (n : ℕ) (m : Opener) (s : Source) → (head-sign s ≡ 91 → ⊥) → run V n (opens m) s ≡ run V n (wants (resume m syntax.unwritten)) s
+pub no-ends : (V : Vocabulary) (strict : Bool) (n : ℕ) (m : Opener) (s : Source) → (head-sign s ≡ 91 → ⊥) → walk V strict n (opens m) s ≡ walk V strict n (wants (resume m syntax.unwritten)) s
 unfolding walk move
-no-ends V n m (end p) h = refl
-no-ends V n m (next (word b) p s) h = refl
-no-ends V n m (next (variable v) p s) h = refl
-no-ends V n m (next (digits d) p s) h = refl
-no-ends V n m (next (mark c) p s) h = ap (λ x. followed true x n p (λ i g. run V i g s)) (cond-false (eqb c 91) _ _ (ne-eqb c 91 h))
-no-ends V n m (next bad p s) h = refl
+no-ends V strict n m (end p) h = refl
+no-ends V strict n m (next (word b) p s) h = refl
+no-ends V strict n m (next (variable v) p s) h = refl
+no-ends V strict n m (next (digits d) p s) h = refl
+no-ends V strict n m (next (mark c) p s) h = ap (λ x. followed strict x n p (λ i g. walk V strict i g s)) (cond-false (eqb c 91) _ _ (ne-eqb c 91 h))
+no-ends V strict n m (next bad p s) h = refl
 
 pub open-ends : {W : Words} {p q : Progress} {place behind : ℕ} → Here W p (mark 91) place behind → Passed p q 0 behind → (m : Opener) → from W p (opens m) ≡ from W q (lower m)
 unfolding move

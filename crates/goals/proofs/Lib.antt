@@ -21,3 +21,9 @@ pub mod Unfolding
 pub mod Ordered
 pub mod Whole
 pub mod JobSteps
+pub mod Judging
+pub mod Sound
+pub mod Theorems
+pub mod Viable
+pub mod Rising
+pub mod Jobs

@@ -13,7 +13,8 @@ use Rattle.goals.specs.declared.goal.Node.{Node}
 use Rattle.goals.specs.declared.goal.Node.the-variants as node
 use Rattle.goals.specs.Tree.{Tree, always, test, equal, not, next, and, or, until, for-all, exists}
 use Rattle.goals.specs.Layout.{laid, below, size}
-use Rattle.goals.specs.GoalTable.{parts-below, ends-rise, node-rises}
+use Rattle.goals.specs.GoalTable.{parts-below}
+use Rattle.goals.specs.NodeTable.{ordered, ordered-node}
 use Rattle.goals.proofs.Making.{length-laid}
 
 -- a test of each node with its number, the first of which is b
@@ -66,21 +67,21 @@ tree-rises (not t) = tree-rises t
 tree-rises (next t) = tree-rises t
 tree-rises (and t u) = tree-rises t && tree-rises u
 tree-rises (or t u) = tree-rises t && tree-rises u
-tree-rises (until e t u) = ends-rise e && (tree-rises t && tree-rises u)
+tree-rises (until e t u) = ordered e && (tree-rises t && tree-rises u)
 tree-rises (for-all v a t) = tree-rises t
 tree-rises (exists v a t) = tree-rises t
 
-pub laid-rises : (t : Tree) (b : ℕ) → tree-rises t ≡ true → all-from (λ k n. node-rises n) b (laid t b) ≡ true
+pub laid-rises : (t : Tree) (b : ℕ) → tree-rises t ≡ true → all-from (λ k n. ordered-node n) b (laid t b) ≡ true
 laid-rises always b h = refl
 laid-rises (test a) b h = refl
 laid-rises (equal x y) b h = refl
-laid-rises (not t) b h = all-one (λ k n. node-rises n) t b _ (laid-rises t b h) refl
-laid-rises (next t) b h = all-one (λ k n. node-rises n) t b _ (laid-rises t b h) refl
-laid-rises (for-all v a t) b h = all-one (λ k n. node-rises n) t b _ (laid-rises t b h) refl
-laid-rises (exists v a t) b h = all-one (λ k n. node-rises n) t b _ (laid-rises t b h) refl
-laid-rises (and t u) b h = let g = and-parts (tree-rises t) (tree-rises u) h in all-two (λ k n. node-rises n) t u b _ (laid-rises t b (g .0)) (laid-rises u (b + size t) (g .1)) refl
-laid-rises (or t u) b h = let g = and-parts (tree-rises t) (tree-rises u) h in all-two (λ k n. node-rises n) t u b _ (laid-rises t b (g .0)) (laid-rises u (b + size t) (g .1)) refl
+laid-rises (not t) b h = all-one (λ k n. ordered-node n) t b _ (laid-rises t b h) refl
+laid-rises (next t) b h = all-one (λ k n. ordered-node n) t b _ (laid-rises t b h) refl
+laid-rises (for-all v a t) b h = all-one (λ k n. ordered-node n) t b _ (laid-rises t b h) refl
+laid-rises (exists v a t) b h = all-one (λ k n. ordered-node n) t b _ (laid-rises t b h) refl
+laid-rises (and t u) b h = let g = and-parts (tree-rises t) (tree-rises u) h in all-two (λ k n. ordered-node n) t u b _ (laid-rises t b (g .0)) (laid-rises u (b + size t) (g .1)) refl
+laid-rises (or t u) b h = let g = and-parts (tree-rises t) (tree-rises u) h in all-two (λ k n. ordered-node n) t u b _ (laid-rises t b (g .0)) (laid-rises u (b + size t) (g .1)) refl
 laid-rises (until e t u) b h =
-    let f = and-parts (ends-rise e) (tree-rises t && tree-rises u) h in
+    let f = and-parts (ordered e) (tree-rises t && tree-rises u) h in
     let g = and-parts (tree-rises t) (tree-rises u) (f .1) in
-    all-two (λ k n. node-rises n) t u b _ (laid-rises t b (g .0)) (laid-rises u (b + size t) (g .1)) (f .0)
+    all-two (λ k n. ordered-node n) t u b _ (laid-rises t b (g .0)) (laid-rises u (b + size t) (g .1)) (f .0)

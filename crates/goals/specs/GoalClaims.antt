@@ -34,3 +34,62 @@ pub record Goal-read (V : Vocabulary) (text : List ℕ) (g : Goal) : Type 0 wher
 abbrev pub Goal-says : Vocabulary → List ℕ → Result Goal GoalFault → Type 0
 Goal-says V text (Ok g) = Goal-read V text g
 Goal-says V text (Err x) = reads V text ≡ told x
+
+-- the grammar derives the parse tree from all the tokens
+abbrev pub Derives : Vocabulary → Source → Formula → Type 0
+Derives V w f = (p : ℕ) × Is-formula V f w (end p)
+
+-- it derives the tree from the text, and none of 3, 5, 6 and 7 applies
+pub record Allowed (V : Vocabulary) (text : List ℕ) (f : Formula) : Type 0 where
+  pub short : length text ≤ 2048
+  pub derived : Derives V (lexed text 0) f
+  pub known : known-formula V outermost f ≡ true
+  pub ranged : ranged-formula V f ≡ true
+  pub shallow : shallow-formula outermost f ≡ true
+  pub few : formula-nodes f ≤ 128
+
+abbrev pub Accepts : Vocabulary → List ℕ → Tree → Type 0
+Accepts V text t = (f : Formula) × (reads V text ≡ read f) × (tree-of V f ≡ t)
+
+abbrev pub Allows : Vocabulary → List ℕ → Tree → Type 0
+Allows V text t = (f : Formula) × Allowed V text f × (tree-of V f ≡ t)
+
+-- a text is accepted with a tree exactly if the grammar derives it and no condition is met
+abbrev pub Exactly : Type 0
+Exactly = (V : Vocabulary) (text : List ℕ) (t : Tree) → (Accepts V text t → Allows V text t) × (Allows V text t → Accepts V text t)
+
+-- two derivations of one text have the same parse tree, and so the same tree
+abbrev pub Only-reading : Type 0
+Only-reading = (V : Vocabulary) (w : Source) (f g : Formula) → Derives V w f → Derives V w g → f ≡ g
+
+pub record Placed : Type 0 where
+  pub tok : Tok
+  pub place : ℕ
+
+-- some tokens, and then others
+abbrev pub then : List Placed → Source → Source
+then [] s = s
+then (x ∷ xs) s = next (x .tok) (x .place) (then xs s)
+
+abbrev pub Grammatical : Vocabulary → Source → Type 0
+Grammatical V w = (f : Formula) × Derives V w f
+
+-- the tokens begin some text of the grammar
+abbrev pub Begins : Vocabulary → List Placed → Type 0
+Begins V xs = (s : Source) × Grammatical V (then xs s)
+
+-- the first token of the rest, or the end, stands at the place p, and no text of the grammar goes on with it
+abbrev pub Cannot-follow : Vocabulary → List Placed → Source → ℕ → Type 0
+Cannot-follow V xs (end q) p = (q ≡ p) × (Grammatical V (then xs (end q)) → ⊥)
+Cannot-follow V xs (next x q u) p = (q ≡ p) × ((s : Source) → Grammatical V (then xs (next x q s)) → ⊥)
+
+pub record Misplaced (V : Vocabulary) (w : Source) (p : ℕ) : Type 0 where
+  pub before : List Placed
+  pub rest : Source
+  pub whole : w ≡ then before rest
+  pub begins : Begins V before
+  pub stops : Cannot-follow V before rest p
+
+-- 4 tells the place of the first token, or of the end, that can't follow
+abbrev pub Right-place : Type 0
+Right-place = (V : Vocabulary) (text : List ℕ) (p : ℕ) → reads V text ≡ fault 4 p → Misplaced V (lexed text 0) p

@@ -4,12 +4,8 @@ use mathlib.Core.Path.{_≡_}
 use mathlib.Core.Bool.{Bool, true, false, cond, _&&_}
 use mathlib.Core.List.{List, [], _∷_, _++_}
 use Prim.Native.Nat.{ℕ, _+_, _<_}
-use lib.Dec.{eqb, ltb, leb}
+use lib.Dec.{eqb, ltb}
 use lib.ListN.{length, getD}
-use Rattle.std.specs.declared.option.Option.{Option}
-use Rattle.std.specs.declared.option.Option.the-variants.{Some, None}
-use Rattle.goals.specs.declared.time.Span.{Span}
-use Rattle.goals.specs.declared.goal.Ends.{Ends}
 use Rattle.goals.specs.declared.goal.Node.{Node}
 use Rattle.goals.specs.declared.goal.Node.the-variants.{True, Test, Equal, Not, And, Or, Next, Until, ForAll, Exists}
 use Rattle.goals.specs.Tree.{Tree, always, test, equal, not, next, and, or, until, for-all, exists}
@@ -26,26 +22,6 @@ parts-below k (Next a) = ltb a k
 parts-below k (Until e a b) = ltb a k && ltb b k
 parts-below k (ForAll v t a) = ltb a k
 parts-below k (Exists v t a) = ltb a k
-
--- an upper end is not below its lower end
-abbrev pub upper-from : ℕ → Option Span → Bool
-upper-from n None = true
-upper-from n (Some s) = leb n (s .hours)
-
-abbrev pub ends-rise : Ends → Bool
-ends-rise e = upper-from (e .lower .hours) (e .upper)
-
-abbrev pub node-rises : Node → Bool
-node-rises True = true
-node-rises (Test a) = true
-node-rises (Equal x y) = true
-node-rises (Not a) = true
-node-rises (And a b) = true
-node-rises (Or a b) = true
-node-rises (Next a) = true
-node-rises (Until e a b) = ends-rise e
-node-rises (ForAll v t a) = true
-node-rises (Exists v t a) = true
 
 abbrev pub Holds : List Node → ℕ → Node → Type 0
 Holds ns i n = (i < length ns) × (getD ns i True ≡ n)

@@ -27,3 +27,4 @@ pub mod JobText
 pub mod JobReading
 pub mod Placing
 pub mod JobView
+pub mod NodeTable

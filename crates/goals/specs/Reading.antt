@@ -255,7 +255,7 @@ ended (upper m lo) p = fault 4 p
 -- a token is followed; with nothing asked of it, it is by the grammar alone
 abbrev pub followed : Bool → Moved → ℕ → ℕ → (ℕ → Stage → Outcome) → Outcome
 followed strict cannot n p go = fault 4 p
-followed false (may ok c q cost g) n p go = go n g
+followed false (may ok c q cost g) n p go = go (n + cost) g
 followed true (may ok c q cost g) n p go = cond ok (cond (leb (n + cost) 128) (go (n + cost) g) (fault 7 p)) (fault c q)
 
 module _ (V : Vocabulary) where

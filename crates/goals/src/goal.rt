@@ -6,6 +6,7 @@ ghost use Rattle.std.specs.Of.Vec.{vec-items, vec-len, vec-cap};
 ghost use Rattle.std.specs.Options.{Cases as BySome};
 ghost use Rattle.goals.specs.declared.goal.Node.the-variants.{True};
 ghost use Rattle.goals.specs.GoalTable.{parts-below};
+ghost use Rattle.goals.specs.NodeTable.{ordered-node};
 use crate::time::Span;
 use std::alloc::AllocError;
 use std::alloc::Global;
@@ -61,6 +62,8 @@ pub struct Goal {
     pub(crate) root: usize,
     ghost parts: { (k : ℕ) → k < length (vec-items nodes) → parts-below k (getD (vec-items nodes) k True) ≡ true },
     ghost rooted: { root < vec-len nodes },
+    ghost ends: { (k : ℕ) → k < length (vec-items nodes) → ordered-node (getD (vec-items nodes) k True) ≡ true },
+    ghost few: { vec-len nodes ≤ 128 },
 }
 
 impl Goal {

@@ -289,6 +289,12 @@ fn quantified(
     bound(words, scope, s)
 }
 
+fn opening(prefix: Prefix, scope: Scope) -> Opening
+    ensures { λ r. ⌜ r ≡ record { prefix = prefix; scope = scope } ⌝ }
+{
+    Opening { prefix, scope }
+}
+
 // What stands before an item, whose first token is at hand.
 pub fn prefix(
     words: Words<'_>,
@@ -303,45 +309,33 @@ pub fn prefix(
     match token {
         Token::Not(place) => {
             s.take(1, place, after)?;
-            Ok(Opening {
-                prefix: Prefix::Not,
-                scope,
-            })
+            Ok(opening(Prefix::Not, scope))
         }
         Token::Next(place) => {
             s.take(1, place, after)?;
-            Ok(Opening {
-                prefix: Prefix::Next,
-                scope,
-            })
+            Ok(opening(Prefix::Next, scope))
         }
         Token::Eventually(place) => {
-            let timed = timed(words, 2, place, after, s)?;
-            Ok(Opening {
-                prefix: Prefix::Eventually(timed.ends, timed.truth),
-                scope,
-            })
+            let t = timed(words, 2, place, after, s)?;
+            Ok(opening(Prefix::Eventually(t.ends, t.truth), scope))
         }
         Token::Always(place) => {
-            let timed = timed(words, 4, place, after, s)?;
-            Ok(Opening {
-                prefix: Prefix::Always(timed.ends, timed.truth),
-                scope,
-            })
+            let t = timed(words, 4, place, after, s)?;
+            Ok(opening(Prefix::Always(t.ends, t.truth), scope))
         }
         Token::ForAll(place) => {
-            let bound = quantified(words, scope, place, after, s)?;
-            Ok(Opening {
-                prefix: Prefix::ForAll(scope.letters.next(), bound.atom),
-                scope: scope.binding(bound.letter),
-            })
+            let b = quantified(words, scope, place, after, s)?;
+            Ok(opening(
+                Prefix::ForAll(scope.letters.next(), b.atom),
+                scope.binding(b.letter),
+            ))
         }
         Token::Exists(place) => {
-            let bound = quantified(words, scope, place, after, s)?;
-            Ok(Opening {
-                prefix: Prefix::Exists(scope.letters.next(), bound.atom),
-                scope: scope.binding(bound.letter),
-            })
+            let b = quantified(words, scope, place, after, s)?;
+            Ok(opening(
+                Prefix::Exists(scope.letters.next(), b.atom),
+                scope.binding(b.letter),
+            ))
         }
         other => Err(GoalFault::Follow(place_of(other))),
     }

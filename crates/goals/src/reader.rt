@@ -3,7 +3,7 @@ ghost use Prim.Native.Nat.{ℕ, _+_, _-_, _<_, _≤_};
 ghost use lib.ListN.{length};
 ghost use Rattle.goals.specs.Reading.{Place, wants, at, open-at};
 ghost use Rattle.goals.specs.Vocabulary.{vocabulary-of};
-ghost use Rattle.goals.specs.GoalClaims.{Goal-says};
+ghost use Rattle.goals.specs.GoalClaims.{Goal-says, Exactly, Only-reading, Right-place};
 ghost use Rattle.goals.specs.Promises.{Item-says, Clause-says, Formula-says, bracketed};
 use crate::goal::Goal;
 use crate::goal::GoalRoom;
@@ -130,7 +130,10 @@ pub fn read_goal<'a>(
     predicates: &'a [Predicate],
     room: GoalRoom,
 ) -> Result<Goal, GoalFault>
-    ensures { λ r. ⌜ Goal-says (vocabulary-of ids (now (predicates .entry))) (now (text .entry)) r ⌝ }
+    ensures value { λ r. ⌜ Goal-says (vocabulary-of ids (now (predicates .entry))) (now (text .entry)) r ⌝ }
+    ensures exactly { λ _. ⌜ Exactly ⌝ }
+    ensures one { λ _. ⌜ Only-reading ⌝ }
+    ensures placing { λ _. ⌜ Right-place ⌝ }
 {
     if text.len() > MOST_BYTES {
         return Err(GoalFault::TooLong);

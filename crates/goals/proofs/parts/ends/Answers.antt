@@ -1,5 +1,6 @@
 use mathlib.Core.Path.{_≡_, refl, sym, ap, subst, _∙_}
 use native.Mathlib.Nat.{le-refl}
+use mathlib.Core.Bool.{true}
 use Rattle.goals.specs.Tokens.{lexed, mark}
 use Rattle.goals.specs.Seen.{seen}
 use Rattle.goals.specs.Syntax as syntax
@@ -18,7 +19,7 @@ returns-in-rest c =
     record {
       interval = syntax.unwritten;
       value-is = refl;
-      runs = λ m. no-ends (vocabulary W) (p .count) m (tokens W p) (λ e. no-openends (n .result .0) (lexed (text-of W) (n .result .1)) (c .in-rest .not-OpenEnds) (sym (ap head-sign (n .ensures .value)) ∙ e));
+      runs = λ m. no-ends (vocabulary W) true (p .count) m (tokens W p) (λ e. no-openends (n .result .0) (lexed (text-of W) (n .result .1)) (c .in-rest .not-OpenEnds) (sym (ap head-sign (n .ensures .value)) ∙ e));
       nodes-same = refl;
       count-same = refl;
       low = le-refl (p .at);

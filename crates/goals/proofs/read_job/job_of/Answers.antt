@@ -42,14 +42,14 @@ returns-in-Break-goal c =
       shape-of-file file f k s,
       operations-of-file file f k s,
       ap₂ reads (sym (words-of-file file f k s)) (sym (c .part-text .ensures ∙ goal-slice file f (inside file f (c .pre))))
-          ∙ (ap (λ V. reads V (c .part-text .result .now)) w ∙ c .in-Break-goal .ensures tt),
+          ∙ (ap (λ V. reads V (c .part-text .result .now)) w ∙ c .in-Break-goal .ensures tt .value),
     )
 
 pub ghost-result : need.ghost-result
 ghost-result c =
     let k = c .in-Continue-catalogue .catalogue in
     let w = ap₂ vocabulary-of (c .from .ensures) (c .as-slice .ensures .value) in
-    (∣ (c .part-text .result .now, subst (λ V. Goal-read V (c .part-text .result .now) (c .in-Continue-goal .goal)) w (c .in-Continue-goal .ensures tt)) ∣₁, tt)
+    (∣ (c .part-text .result .now, subst (λ V. Goal-read V (c .part-text .result .now) (c .in-Continue-goal .goal)) w (c .in-Continue-goal .ensures tt .value)) ∣₁, tt)
 
 pub returns : need.returns
 returns c =
@@ -63,5 +63,5 @@ returns c =
       spelled = s;
       goal =
           subst (λ x. Goal-read (wordsOf file f) x (c .in-Continue-goal .goal)) t
-          (subst (λ V. Goal-read V (c .part-text .result .now) (c .in-Continue-goal .goal)) w (c .in-Continue-goal .ensures tt));
+          (subst (λ V. Goal-read V (c .part-text .result .now) (c .in-Continue-goal .goal)) w (c .in-Continue-goal .ensures tt .value));
     }

@@ -1,0 +1,6 @@
+// What two labels are joined by.
+#[derive(Clone, Copy)]
+pub enum Connective {
+    And,
+    Or,
+}

@@ -27,3 +27,4 @@ pub mod Theorems
 pub mod Viable
 pub mod Rising
 pub mod Jobs
+pub mod GoalFacts

@@ -7,15 +7,30 @@ use native.Mathlib.Nat.{add-zero}
 use native.Mathlib.Omega.{arith}
 use lib.Dec.{ltb, leb}
 use lib.ListN.{length, getD, length-append}
-use borrow.Author.Tests.{lt-ltb}
+use borrow.Author.Tests.{lt-ltb, ltb-true}
 use Rattle.std.proofs.shelf.Tests.{and-parts, and-from}
 use Rattle.goals.specs.declared.goal.Node.{Node}
 use Rattle.goals.specs.declared.goal.Node.the-variants as node
 use Rattle.goals.specs.Tree.{Tree, always, test, equal, not, next, and, or, until, for-all, exists}
 use Rattle.goals.specs.Layout.{laid, below, size}
+use Rattle.goals.specs.NodeTable.{Parts-below, ordered, ordered-node}
 use Rattle.goals.specs.GoalTable.{parts-below}
-use Rattle.goals.specs.NodeTable.{ordered, ordered-node}
 use Rattle.goals.proofs.Making.{length-laid}
+
+two-below : (a b k : ℕ) → (ltb a k && ltb b k) ≡ true → (a < k) × (b < k)
+two-below a b k h = let p = and-parts (ltb a k) (ltb b k) h in (ltb-true a k (p .0), ltb-true b k (p .1))
+
+pub parts-from : (k : ℕ) (n : Node) → parts-below k n ≡ true → Parts-below k n
+parts-from k node.True h = tt
+parts-from k (node.Test a) h = tt
+parts-from k (node.Equal x y) h = tt
+parts-from k (node.Not a) h = ltb-true a k h
+parts-from k (node.And a b) h = two-below a b k h
+parts-from k (node.Or a b) h = two-below a b k h
+parts-from k (node.Next a) h = ltb-true a k h
+parts-from k (node.Until e a b) h = two-below a b k h
+parts-from k (node.ForAll v t a) h = ltb-true a k h
+parts-from k (node.Exists v t a) h = ltb-true a k h
 
 -- a test of each node with its number, the first of which is b
 abbrev pub all-from : (ℕ → Node → Bool) → ℕ → List Node → Bool

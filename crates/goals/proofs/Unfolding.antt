@@ -15,7 +15,7 @@ use Rattle.goals.specs.declared.goal.Node.{Node}
 use Rattle.goals.specs.declared.goal.Node.the-variants as node
 use Rattle.goals.specs.Tree.{Tree, always, test, equal, not, next, and, or, until, for-all, exists}
 use Rattle.goals.specs.Layout.{laid, below, size}
-use Rattle.goals.specs.GoalTable.{parts-below, Holds, Unfolds, numbers, occurs}
+use Rattle.goals.specs.GoalTable.{Holds, Unfolds, numbers, occurs}
 use Rattle.goals.proofs.Making.{length-laid}
 
 holds-at : (table xs : List Node) (n : Node) (ys : List Node) (i : ℕ) → table ≡ xs ++ n ∷ ys → i ≡ length xs → Holds table i n

@@ -54,8 +54,11 @@ pub parts-of : (ns : List Node) (t : Tree) → ns ≡ laid t 0 → (k : ℕ) →
 parts-of ns t e k l =
     ap₂ (λ i m. parts-below i (getD m k node.True)) (sym (zero-add k)) e ∙ all-at parts-below 0 (laid t 0) k (laid-ordered t 0) (subst (λ m. k < length m) e l)
 
-pub root-of : (p : Progress) (t : Tree) (i : ℕ) → items p ≡ laid t 0 → i ≡ below t → i < vec-len (p .nodes)
-root-of p t i e d = let a = p .nodes .ok .0 in let b = ap length e ∙ length-laid t 0 in omega (arith, a, b, d)
+pub root-of : (p : Progress) (t : Tree) (i : ℕ) → items p ≡ laid t 0 → i ≡ below t → i < length (items p)
+root-of p t i e d = let b = ap length e ∙ length-laid t 0 in omega (arith, b, d)
+
+pub few-of : (p : Progress) → length (items p) ≤ 128
+few-of p = let a = p .nodes .ok .0 in let b = p .fits in let c = p .few in omega (arith, a, b, c)
 
 -- a token that can't stand behind the whole
 pub no-end : (V : Vocabulary) (n : ℕ) (c : syntax.Clause) (o : Option syntax.Formula) (t : Token) (s : Source) → (head-sign (seen t s) ≡ 38 → ⊥) → (head-sign (seen t s) ≡ 124 → ⊥) → ((p : ℕ) → t ≡ token.End p → ⊥) → run V n (after c o top) (seen t s) ≡ fault 4 (placed t)

@@ -1,7 +1,7 @@
--- A goal's table of nodes: each names its parts by smaller numbers, and a tree unfolds from its root.
+-- How a table of nodes stands for a tree: it unfolds from its root, each node naming its parts by smaller numbers.
 -- How the nodes are numbered is left free; each number is one place of the tree.
 use mathlib.Core.Path.{_≡_}
-use mathlib.Core.Bool.{Bool, true, false, cond, _&&_}
+use mathlib.Core.Bool.{Bool, true, cond, _&&_}
 use mathlib.Core.List.{List, [], _∷_, _++_}
 use Prim.Native.Nat.{ℕ, _+_, _<_}
 use lib.Dec.{eqb, ltb}

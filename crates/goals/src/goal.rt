@@ -60,10 +60,10 @@ pub enum Node {
 pub struct Goal {
     pub(crate) nodes: Vec<Node>,
     pub(crate) root: usize,
-    ghost parts: { (k : ℕ) → k < length (vec-items nodes) → parts-below k (getD (vec-items nodes) k True) ≡ true },
-    ghost rooted: { root < vec-len nodes },
-    ghost ends: { (k : ℕ) → k < length (vec-items nodes) → ordered-node (getD (vec-items nodes) k True) ≡ true },
-    ghost few: { vec-len nodes ≤ 128 },
+    ghost rising: { (k : ℕ) → k < length (vec-items nodes) → parts-below k (getD (vec-items nodes) k True) ≡ true },
+    ghost ordered: { (k : ℕ) → k < length (vec-items nodes) → ordered-node (getD (vec-items nodes) k True) ≡ true },
+    ghost rooted: { root < length (vec-items nodes) },
+    ghost few: { length (vec-items nodes) ≤ 128 },
 }
 
 impl Goal {

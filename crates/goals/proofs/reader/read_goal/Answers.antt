@@ -1,6 +1,4 @@
-use Rattle.std.specs.Of.Vec.{vec-len}
 use mathlib.Core.Path.{_≡_, refl, sym, ap, subst, _∙_}
-use Prim.Native.Nat.{_≤_}
 use native.Mathlib.Omega.{arith}
 use Rattle.goals.specs.Tokens.{lexed}
 use Rattle.goals.specs.Seen.{seen}
@@ -11,7 +9,7 @@ use Rattle.goals.specs.Vocabulary.{vocabulary-of}
 use Rattle.goals.specs.Promises.{head-sign, items}
 use Rattle.goals.proofs.Terms.{broke}
 use Rattle.goals.proofs.Unfolding.{whole}
-use Rattle.goals.proofs.Whole.{reads-short, reads-long, ends-here, from-empty, parts-of, root-of, no-end}
+use Rattle.goals.proofs.Whole.{reads-short, reads-long, ends-here, from-empty, parts-of, root-of, few-of, no-end}
 use Rattle.goals.proofs.Rising.{formula-rises, nodes-rise}
 use Rattle.goals.proofs.Theorems.{exactly, only-reading, read-ranged}
 use Rattle.goals.proofs.Viable.{right-place}
@@ -65,21 +63,14 @@ outcome c =
     let v = n .ensures .value ∙ ap (λ x. seen x (lexed (c .args .text .now) (n .result .1))) (c .in-End .is) in
     reads-short V (c .args .text .now) (c .if-text-gt-MOST-BYTES .left) ∙ f .runs top refl ∙ ap (run V (q .count) (after (f .last) (f .before) top)) v ∙ ends-here V (q .count) (f .last) (f .before) (c .in-End .field-0)
 
-few : (c : need.In-End) → vec-len (c .formula .last .s .nodes) ≤ 128
-few c = let a = c .formula .last .s .fits in let b = c .formula .last .s .few in omega (arith, a, b)
-
 pub ghost-result : need.ghost-result
 ghost-result c =
     let V = vocabulary-of (c .args .ids) (c .args .predicates .now) in
     let f = c .in-Continue-root .ensures tt in
     let y = joined-or (f .before) (f .last) in
-    let m = from-empty (f .made) (c .args .room .empty) in (
-      parts-of (items (c .formula .last .s)) (tree-of V y) (m .0),
-      (
-        root-of (c .formula .last .s) (tree-of V y) (c .in-Continue-root .root) (m .0) (m .1),
-        (nodes-rise (items (c .formula .last .s)) (tree-of V y) (m .0) (formula-rises V outermost y (read-ranged V (c .args .text .now) y (outcome c))), (few c, tt)),
-      ),
-    )
+    let m = from-empty (f .made) (c .args .room .empty) in
+    let ns = items (c .formula .last .s) in
+    (parts-of ns (tree-of V y) (m .0), (nodes-rise ns (tree-of V y) (m .0) (formula-rises V outermost y (read-ranged V (c .args .text .now) y (outcome c))), (root-of (c .formula .last .s) (tree-of V y) (c .in-Continue-root .root) (m .0) (m .1), (few-of (c .formula .last .s), tt))))
 
 pub returns : need.returns
 returns c =

@@ -1,3 +1,4 @@
+pub mod BoundSteps
 pub mod FrameSteps
 pub mod FillSteps
 pub mod Finding

@@ -8,6 +8,7 @@ pub mod Sections
 pub mod Written
 pub mod CatalogueRules
 pub mod Entries
+pub mod EntryBounds
 pub mod CatalogueMeaning
 pub mod CatalogueReading
 pub mod Syntax

@@ -8,6 +8,7 @@ ghost use Rattle.std.specs.Vec.{made};
 ghost use Rattle.goals.specs.CatalogueRules.{soundCounts, soundPredicates};
 ghost use Rattle.goals.specs.Entries.{predicateText, operationText};
 ghost use Rattle.goals.specs.CatalogueMeaning.{soundOperations};
+ghost use Rattle.goals.specs.EntryBounds.{operationsInside};
 use crate::operation::Operation;
 use crate::predicate::Predicate;
 use std::alloc::AllocError;
@@ -44,4 +45,5 @@ pub struct Catalogue {
     ghost counts: { soundCounts ids (vec-len predicates) (vec-len operations) ≡ true },
     ghost names: { soundPredicates [] (map predicateText (vec-items predicates)) ≡ true },
     ghost rules: { soundOperations ids (map predicateText (vec-items predicates)) (map operationText (vec-items operations)) ≡ true },
+    ghost bounds: { operationsInside ids (vec-items operations) ≡ true },
 }

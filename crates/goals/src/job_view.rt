@@ -1,6 +1,8 @@
 ghost use mathlib.Core.Path.{_≡_};
 ghost use lib.ListN.{length};
 ghost use Rattle.std.specs.Runs.{nth};
+ghost use Rattle.std.specs.Options.{Cases};
+ghost use Rattle.goals.specs.EntryBounds.{Inside};
 ghost use Rattle.goals.specs.JobView.{idsOf, predicatesIn, operationsIn, nodesOf, rootOf, Sound};
 use crate::goal::Node;
 use crate::job::Job;
@@ -34,6 +36,7 @@ impl Job {
     // The operation of that number, if there is one.
     pub fn operation(&self, number: usize) -> Option<Operation>
         ensures value { λ r. ⌜ r ≡ nth (operationsIn (now (self .entry))) number ⌝ }
+        ensures inside { λ r. ⌜ Cases r (Unit {0}) (λ o. Inside (idsOf (now (self .entry))) o) ⌝ }
         ensures sound { λ _. ⌜ Sound (now (self .entry)) ⌝ }
     {
         if number < self.catalogue.operations.len() {

@@ -1,4 +1,6 @@
+ghost use mathlib.Core.Path.{_≡_};
 ghost use Prim.Native.Nat.{_≤_};
+ghost use lib.ListN.{length};
 use crate::time::Span;
 
 // What stands for an id in an operation: an id, or one of the operation's parameters, from 0.
@@ -26,6 +28,7 @@ pub struct Entries {
     pub(crate) items: [Entry; 6],
     pub(crate) count: usize,
     ghost few: { count ≤ 6 },
+    ghost whole: { length items ≡ 6 },
 }
 
 // What a step does: with arguments for its parameters it needs some facts, takes some and puts some, and lasts its span.
@@ -37,3 +40,5 @@ pub struct Operation {
     pub takes: Entries,
     pub puts: Entries,
 }
+
+pub mod view;

@@ -11,6 +11,7 @@ ghost use Rattle.goals.specs.Sections.{predicatesAt, operationsAt};
 ghost use Rattle.goals.specs.CatalogueRules.{taken, soundCounts, soundPredicates};
 ghost use Rattle.goals.specs.CatalogueMeaning.{soundOperations, AtFault};
 ghost use Rattle.goals.specs.CatalogueReading.{Catalogue-says};
+ghost use Rattle.goals.specs.EntryBounds.{operationsInside};
 ghost use Rattle.goals.specs.Entries.{predicateText, operationText};
 use crate::catalogue::Catalogue;
 use crate::catalogue::CatalogueRoom;
@@ -69,9 +70,12 @@ fn read_operations(
     requires room { ⌜ 64 ≤ vec-cap (now operations) ⌝ }
     requires few { ⌜ count ≤ 64 ⌝ }
     requires near { ⌜ start ≤ 40000 ⌝ }
+    requires some { ⌜ 0 < ids ⌝ }
+    requires named { ⌜ length (now predicates) ≤ 16 ⌝ }
     ensures { λ r. ⌜ Cases r
         (λ _. (map operationText (vec-items (now (operations .exit))) ≡ operationsAt (now (file .entry)) count start)
-        × (soundOperations ids (map predicateText (now (predicates .entry))) (operationsAt (now (file .entry)) count start) ≡ true))
+        × (soundOperations ids (map predicateText (now (predicates .entry))) (operationsAt (now (file .entry)) count start) ≡ true)
+        × (operationsInside ids (vec-items (now (operations .exit))) ≡ true))
         (λ k. AtFault ids (map predicateText (now (predicates .entry))) (operationsAt (now (file .entry)) count start) k) ⌝ }
 {
     let mut at = start;

@@ -8,7 +8,8 @@ ghost use Rattle.std.specs.Options.{Cases};
 ghost use Rattle.goals.specs.Bytes.{byteAt, wordAt};
 ghost use Rattle.goals.specs.Sections.{entryAt, entriesAt, operationAt};
 ghost use Rattle.goals.specs.CatalogueRules.{placesIn, soundTerm, soundEntry, soundEntries, soundOperation, predicateNumber};
-ghost use Rattle.goals.specs.Entries.{predicateText, termByte, entryText, entryTexts, operationText};
+ghost use Rattle.goals.specs.EntryBounds.{termInside, entryInside, entriesInside, operationInside};
+ghost use Rattle.goals.specs.Entries.{entriesOf, predicateText, termByte, entryText, entryTexts, operationText};
 use crate::bytes::byte_at;
 use crate::bytes::word_at;
 use crate::operation::Entries;
@@ -33,7 +34,7 @@ pub(crate) struct Against {
 
 // A term byte where the predicate has the place: 0 to 127 an id, 128 to 130 a parameter, all else a fault.
 fn read_term(byte: u8, against: Against) -> Option<EntryTerm>
-    ensures { λ r. ⌜ Cases r (soundTerm true (against .ids) (against .parameters) byte ≡ false) (λ t. (termByte t ≡ byte) × (soundTerm true (against .ids) (against .parameters) byte ≡ true)) ⌝ }
+    ensures { λ r. ⌜ Cases r (soundTerm true (against .ids) (against .parameters) byte ≡ false) (λ t. (termByte t ≡ byte) × (soundTerm true (against .ids) (against .parameters) byte ≡ true) × (termInside (against .ids) (against .parameters) t ≡ true)) ⌝ }
 {
     match byte {
         0..=127 if byte < against.ids => Some(EntryTerm::Id(u16::from(byte))),
@@ -44,7 +45,8 @@ fn read_term(byte: u8, against: Against) -> Option<EntryTerm>
 
 // A term byte; where the predicate has no such place it is 0.
 fn read_place(used: bool, byte: u8, against: Against) -> Option<EntryTerm>
-    ensures { λ r. ⌜ Cases r (soundTerm used (against .ids) (against .parameters) byte ≡ false) (λ t. (termByte t ≡ byte) × (soundTerm used (against .ids) (against .parameters) byte ≡ true)) ⌝ }
+    requires { ⌜ 0 < against .ids ⌝ }
+    ensures { λ r. ⌜ Cases r (soundTerm used (against .ids) (against .parameters) byte ≡ false) (λ t. (termByte t ≡ byte) × (soundTerm used (against .ids) (against .parameters) byte ≡ true) × (termInside (against .ids) (against .parameters) t ≡ true)) ⌝ }
 {
     if used {
         read_term(byte, against)
@@ -74,9 +76,11 @@ fn number_of(byte: u8, need: bool) -> u8
 
 // The three bytes of an entry at a place.
 fn read_entry(file: &[u8], at: usize, against: Against, predicates: &[Predicate]) -> Option<Entry>
-    requires { ⌜ at < 900000 ⌝ }
+    requires near { ⌜ at < 900000 ⌝ }
+    requires some { ⌜ 0 < against .ids ⌝ }
+    requires few { ⌜ length (now predicates) ≤ 16 ⌝ }
     ensures { λ r. ⌜ Cases r (soundEntry (against .needs) (against .ids) (map predicateText (now (predicates .entry))) (against .parameters) (entryAt (now (file .entry)) at) ≡ false)
-        (λ e. (entryText e ≡ entryAt (now (file .entry)) at) × (soundEntry (against .needs) (against .ids) (map predicateText (now (predicates .entry))) (against .parameters) (entryAt (now (file .entry)) at) ≡ true)) ⌝ }
+        (λ e. (entryText e ≡ entryAt (now (file .entry)) at) × (soundEntry (against .needs) (against .ids) (map predicateText (now (predicates .entry))) (against .parameters) (entryAt (now (file .entry)) at) ≡ true) × (entryInside (against .ids) (against .parameters) e ≡ true)) ⌝ }
 {
     let byte = byte_at(file, at);
     let number = number_of(byte, against.needs);
@@ -106,9 +110,11 @@ fn read_entries(
     against: Against,
     predicates: &[Predicate],
 ) -> Option<Entries>
-    requires { ⌜ at < 800000 ⌝ }
+    requires near { ⌜ at < 800000 ⌝ }
+    requires some { ⌜ 0 < against .ids ⌝ }
+    requires few { ⌜ length (now predicates) ≤ 16 ⌝ }
     ensures { λ r. ⌜ Cases r (soundEntries (against .needs) (against .ids) (map predicateText (now (predicates .entry))) (against .parameters) (entriesAt (now (file .entry)) count at) ≡ false)
-        (λ es. (entryTexts es ≡ entriesAt (now (file .entry)) count at) × (soundEntries (against .needs) (against .ids) (map predicateText (now (predicates .entry))) (against .parameters) (entriesAt (now (file .entry)) count at) ≡ true)) ⌝ }
+        (λ es. (entryTexts es ≡ entriesAt (now (file .entry)) count at) × (soundEntries (against .needs) (against .ids) (map predicateText (now (predicates .entry))) (against .parameters) (entriesAt (now (file .entry)) count at) ≡ true) × (entriesInside (against .ids) (against .parameters) (entriesOf es) ≡ true)) ⌝ }
 {
     let count = usize::from(count);
     if count > MOST_ENTRIES {
@@ -138,9 +144,11 @@ pub(crate) fn read_operation(
     ids: u8,
     predicates: &[Predicate],
 ) -> Option<Operation>
-    requires { ⌜ at < 700000 ⌝ }
+    requires near { ⌜ at < 700000 ⌝ }
+    requires some { ⌜ 0 < ids ⌝ }
+    requires few { ⌜ length (now predicates) ≤ 16 ⌝ }
     ensures { λ r. ⌜ Cases r (soundOperation ids (map predicateText (now (predicates .entry))) (operationAt (now (file .entry)) at) ≡ false)
-        (λ o. (operationText o ≡ operationAt (now (file .entry)) at) × (soundOperation ids (map predicateText (now (predicates .entry))) (operationAt (now (file .entry)) at) ≡ true)) ⌝ }
+        (λ o. (operationText o ≡ operationAt (now (file .entry)) at) × (soundOperation ids (map predicateText (now (predicates .entry))) (operationAt (now (file .entry)) at) ≡ true) × (operationInside ids o ≡ true)) ⌝ }
 {
     let parameters = byte_at(file, at);
     let span = word_at(file, at + 1);

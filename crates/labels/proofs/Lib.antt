@@ -27,3 +27,4 @@ pub mod Walking
 pub mod Labelled
 pub mod Answering
 pub mod Idles
+pub mod Laws

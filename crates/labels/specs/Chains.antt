@@ -21,8 +21,8 @@ bucket True = 0
 bucket False = 1
 bucket (Pending n b e) = (n % 1024 * 7 + b .outer * 31 + b .inner * 57 + e .lower .hours * 3 + end-number (e .upper)) % 1024
 bucket (Not x) = (x % 4096 * 3 + 2) % 1024
-bucket (And x y) = (x % 4096 * 5 + y % 4096 * 11 + 3) % 1024
-bucket (Or x y) = (x % 4096 * 7 + y % 4096 * 13 + 4) % 1024
+bucket (And x y) = (x % 4096 * 37 + y % 4096 * 102 + 3) % 1024
+bucket (Or x y) = (x % 4096 * 41 + y % 4096 * 94 + 4) % 1024
 
 abbrev pub bucketAt : List Part → ℕ → ℕ
 bucketAt table k = bucket (getD table k True)

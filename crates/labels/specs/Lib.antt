@@ -26,3 +26,5 @@ pub mod Walks
 pub mod RefusalNumbers
 pub mod LabelCalls
 pub mod Worked
+pub mod TableView
+pub mod JobWalks

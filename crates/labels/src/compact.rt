@@ -1,12 +1,12 @@
 ghost use mathlib.Core.Path.{_≡_};
 ghost use mathlib.Core.Bool.{true, false};
-ghost use Prim.Native.Nat.{ℕ, _≤_, _<_};
+ghost use Prim.Native.Nat.{ℕ, _≤_};
 ghost use lib.ListN.{length, getD};
 ghost use Rattle.std.specs.Of.Vec.{vec-len, vec-items};
-ghost use Rattle.labels.specs.Table.{labelAt, before};
-ghost use Rattle.labels.specs.Growth.{Added};
+ghost use Rattle.labels.specs.Table.{before};
 ghost use Rattle.labels.specs.Partwise.{moved as movedBy};
 ghost use Rattle.labels.specs.Marks.{marked, Marking};
+ghost use Rattle.labels.specs.TableView.{partsIn, labelIn, Stands, Adds};
 use crate::part::Part;
 use crate::table::Full;
 use crate::table::Table;
@@ -48,10 +48,10 @@ fn mark_own(part: Part, marks: &mut Vec<bool>)
 
 // Marks the parts of the label at the root, from the root down.
 pub fn mark(source: &Table, root: usize, marks: &mut Vec<bool>)
-    requires within { ⌜ root < length (vec-items (now source .items)) ⌝ }
-    requires room { ⌜ length (vec-items (now source .items)) ≤ vec-len (now marks) ⌝ }
+    requires within { ⌜ Stands (now source) root ⌝ }
+    requires room { ⌜ length (partsIn (now source)) ≤ vec-len (now marks) ⌝ }
     ensures len { λ _. ⌜ vec-len (now (marks .exit)) ≡ vec-len (now (marks .entry)) ⌝ }
-    ensures marks { λ _. ⌜ Marking (vec-items (now (source .entry) .items)) root 0 (vec-items (now (marks .exit))) ⌝ }
+    ensures marks { λ _. ⌜ Marking (partsIn (now (source .entry))) root 0 (vec-items (now (marks .exit))) ⌝ }
 {
     clear(marks);
     marks[root] = true;
@@ -95,13 +95,13 @@ pub fn copy(
     to: &mut Vec<usize>,
     table: &mut Table,
 ) -> Result<usize, Full>
-    requires within { ⌜ root < length (vec-items (now source .items)) ⌝ }
-    requires marks { ⌜ Marking (vec-items (now source .items)) root 0 (vec-items (now marks)) ⌝ }
-    requires wide { ⌜ length (vec-items (now source .items)) ≤ vec-len (now marks) ⌝ }
-    requires room { ⌜ length (vec-items (now source .items)) ≤ vec-len (now to) ⌝ }
+    requires within { ⌜ Stands (now source) root ⌝ }
+    requires marks { ⌜ Marking (partsIn (now source)) root 0 (vec-items (now marks)) ⌝ }
+    requires wide { ⌜ length (partsIn (now source)) ≤ vec-len (now marks) ⌝ }
+    requires room { ⌜ length (partsIn (now source)) ≤ vec-len (now to) ⌝ }
     ensures limit { λ _. ⌜ now (table .exit) .limit ≡ now (table .entry) .limit ⌝ }
     ensures len { λ _. ⌜ vec-len (now (to .exit)) ≡ vec-len (now (to .entry)) ⌝ }
-    ensures outcome { λ r. ⌜ Added (now (table .entry) .limit) (vec-items (now (table .entry) .items)) (vec-items (now (table .exit) .items)) (labelAt (vec-items (now (source .entry) .items)) root) r ⌝ }
+    ensures outcome { λ r. ⌜ Adds (now (table .entry)) (now (table .exit)) (labelIn (now (source .entry)) root) r ⌝ }
 {
     for k in 0..root + 1 {
         if marks[k] {

@@ -1,15 +1,13 @@
 ghost use mathlib.Core.Path.{_≡_};
 ghost use mathlib.Core.Bool.{true};
 ghost use Prim.Native.Nat.{_≤_};
-ghost use lib.ListN.{length, getD};
+ghost use lib.ListN.{length};
 ghost use Rattle.std.specs.Of.Vec.{vec-len, vec-items};
-ghost use Rattle.goals.specs.JobView.{idsOf, nodesOf};
-ghost use Rattle.labels.specs.Goals.{with-ends, goalAt};
-ghost use Rattle.labels.specs.Table.{labelAt, before};
-ghost use Rattle.labels.specs.Growth.{Outcome};
-ghost use Rattle.labels.specs.Held.{factsOf};
-ghost use Rattle.labels.specs.Walks.{Walked};
-ghost use Rattle.labels.specs.Partwise.{moved, part-progress, part-results, Progressed-all};
+ghost use Rattle.labels.specs.Goals.{with-ends};
+ghost use Rattle.labels.specs.Table.{before};
+ghost use Rattle.labels.specs.Partwise.{moved};
+ghost use Rattle.labels.specs.TableView.{partsIn};
+ghost use Rattle.labels.specs.JobWalks.{nodeOf, Walks, Walks-part, Walks-all};
 use crate::binding::Binding;
 use crate::part::Part;
 use crate::read::node_at;
@@ -35,7 +33,7 @@ fn pending<R: Register>(
     ends: Ends,
 ) -> Result<usize, Full>
     ensures limit { λ _. ⌜ now (table .exit) .limit ≡ now (table .entry) .limit ⌝ }
-    ensures outcome { λ r. ⌜ Walked (idsOf (now (job .entry))) (factsOf (R·Register .meaning (now (register .entry)))) (span .hours) (now (table .entry) .limit) (vec-items (now (table .entry) .items)) (vec-items (now (table .exit) .items)) (with-ends ends (goalAt (nodesOf (now (job .entry))) number)) binding r ⌝ }
+    ensures outcome { λ r. ⌜ Walks (now (job .entry)) (R·Register .meaning (now (register .entry))) span (now (table .entry)) (now (table .exit)) (with-ends ends (nodeOf (now (job .entry)) number)) binding r ⌝ }
 {
     match node_at(job, number) {
         Node::Until(_, hold, reach) => {
@@ -61,12 +59,9 @@ fn one_part<R: Register>(
     to: &Vec<usize>,
 ) -> Result<usize, Full>
     requires read { ⌜ before (length (vec-items (now to))) part ≡ true ⌝ }
-    requires early { ⌜ before (length (vec-items (now table .items))) (moved (vec-items (now to)) part) ≡ true ⌝ }
+    requires early { ⌜ before (length (partsIn (now table))) (moved (vec-items (now to)) part) ≡ true ⌝ }
     ensures limit { λ _. ⌜ now (table .exit) .limit ≡ now (table .entry) .limit ⌝ }
-    ensures outcome { λ r. ⌜ Outcome (now (table .entry) .limit) (vec-items (now (table .entry) .items)) (vec-items (now (table .exit) .items))
-        (part-progress (idsOf (now (job .entry))) (factsOf (R·Register .meaning (now (register .entry)))) (span .hours) (nodesOf (now (job .entry))) (λ x. labelAt (vec-items (now (table .entry) .items)) (getD (vec-items (now (to .entry))) x 0)) part)
-        (part-results (idsOf (now (job .entry))) (factsOf (R·Register .meaning (now (register .entry)))) (span .hours) (nodesOf (now (job .entry))) (λ x. labelAt (vec-items (now (table .entry) .items)) (getD (vec-items (now (to .entry))) x 0)) part)
-        r ⌝ }
+    ensures outcome { λ r. ⌜ Walks-part (now (job .entry)) (R·Register .meaning (now (register .entry))) span (now (table .entry)) (now (table .exit)) part (vec-items (now (to .entry))) r ⌝ }
 {
     match part {
         Part::True => table.add(Part::True),
@@ -91,10 +86,10 @@ pub fn every_part<R: Register>(
     source: &Table,
     to: &mut Vec<usize>,
 ) -> Result<(), Full>
-    requires { ⌜ length (vec-items (now source .items)) ≤ vec-len (now to) ⌝ }
+    requires { ⌜ length (partsIn (now source)) ≤ vec-len (now to) ⌝ }
     ensures limit { λ _. ⌜ now (table .exit) .limit ≡ now (table .entry) .limit ⌝ }
     ensures len { λ _. ⌜ vec-len (now (to .exit)) ≡ vec-len (now (to .entry)) ⌝ }
-    ensures outcome { λ r. ⌜ Progressed-all (idsOf (now (job .entry))) (factsOf (R·Register .meaning (now (register .entry)))) (span .hours) (nodesOf (now (job .entry))) (now (table .entry) .limit) (vec-items (now (source .entry) .items)) (vec-items (now (to .exit))) (vec-items (now (table .entry) .items)) (vec-items (now (table .exit) .items)) r ⌝ }
+    ensures outcome { λ r. ⌜ Walks-all (now (job .entry)) (R·Register .meaning (now (register .entry))) span (now (table .entry)) (now (table .exit)) (now (source .entry)) (vec-items (now (to .exit))) r ⌝ }
 {
     for k in 0..source.len() {
         let at = one_part(table, job, register, span, source.part(k), to)?;

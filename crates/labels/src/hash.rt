@@ -37,7 +37,7 @@ pub fn hash(part: Part) -> usize
                 % BUCKETS
         }
         Part::Not(x) => (x % 4096 * 3 + 2) % BUCKETS,
-        Part::And(x, y) => (x % 4096 * 5 + y % 4096 * 11 + 3) % BUCKETS,
-        Part::Or(x, y) => (x % 4096 * 7 + y % 4096 * 13 + 4) % BUCKETS,
+        Part::And(x, y) => (x % 4096 * 37 + y % 4096 * 102 + 3) % BUCKETS,
+        Part::Or(x, y) => (x % 4096 * 41 + y % 4096 * 94 + 4) % BUCKETS,
     }
 }

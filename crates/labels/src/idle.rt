@@ -3,13 +3,10 @@ ghost use mathlib.Core.Bool.{true, false};
 ghost use Prim.Native.Nat.{ℕ, _≤_, _<_};
 ghost use lib.ListN.{length, getD};
 ghost use Rattle.std.specs.Of.Vec.{vec-len, vec-items};
-ghost use Rattle.goals.specs.JobView.{idsOf, nodesOf};
-ghost use Rattle.labels.specs.Facts.{bind, fact};
-ghost use Rattle.labels.specs.Goals.{goalAt, with-ends, until as untilOf};
-ghost use Rattle.labels.specs.Idling.{some, agrees, idles, idling};
-ghost use Rattle.labels.specs.Table.{labelAt, before};
-ghost use Rattle.labels.specs.Held.{factsOf};
-ghost use Rattle.labels.specs.Partwise.{part-idles};
+ghost use Rattle.labels.specs.Goals.{with-ends};
+ghost use Rattle.labels.specs.Table.{before};
+ghost use Rattle.labels.specs.TableView.{partsIn, labelIn, Stands};
+ghost use Rattle.labels.specs.JobWalks.{nodeOf, waitOf, keeps, keeps-part, keeps-label, keeps-any};
 ghost use Rattle.labels.specs.LabelCalls.{labelOf, idlingAnswer};
 use crate::binding::Binding;
 use crate::connective::Connective;
@@ -29,7 +26,7 @@ use registers::register::Register;
 
 // Does holding the register's facts for ever keep a goal node under a binding?
 fn node<R: Register>(job: &Job, register: &R, number: usize, binding: Binding) -> bool
-    ensures { λ r. ⌜ r ≡ idles (idsOf (now (job .entry))) (factsOf (R·Register .meaning (now (register .entry)))) (goalAt (nodesOf (now (job .entry))) number) binding ⌝ }
+    ensures { λ r. ⌜ r ≡ keeps (now (job .entry)) (R·Register .meaning (now (register .entry))) (nodeOf (now (job .entry)) number) binding ⌝ }
 {
     match node_at(job, number) {
         Node::True => true,
@@ -87,7 +84,7 @@ fn node<R: Register>(job: &Job, register: &R, number: usize, binding: Binding) -
 fn until<R: Register>(job: &Job, register: &R, wait: Wait, binding: Binding) -> bool
     requires hold { ⌜ wait .hold < wait .node ⌝ }
     requires reach { ⌜ wait .reach < wait .node ⌝ }
-    ensures { λ r. ⌜ r ≡ idles (idsOf (now (job .entry))) (factsOf (R·Register .meaning (now (register .entry)))) (untilOf (wait .node) (wait .ends) (goalAt (nodesOf (now (job .entry))) (wait .hold)) (goalAt (nodesOf (now (job .entry))) (wait .reach))) binding ⌝ }
+    ensures { λ r. ⌜ r ≡ keeps (now (job .entry)) (R·Register .meaning (now (register .entry))) (waitOf (now (job .entry)) wait) binding ⌝ }
 {
     if wait.ends.lower.hours == 0 {
         return node(job, register, wait.reach, binding);
@@ -101,9 +98,7 @@ fn until<R: Register>(job: &Job, register: &R, wait: Wait, binding: Binding) -> 
 // Is there an id in range for which the body's answer is the wanted one?
 fn any<R: Register>(job: &Job, register: &R, range: Range, binding: Binding, wanted: bool) -> bool
     requires { ⌜ range .body < range .node ⌝ }
-    ensures { λ r. ⌜ r ≡ some (λ x. fact (factsOf (R·Register .meaning (now (register .entry)))) (bind (range .variable) x binding) (range .bound))
-        (λ x. agrees wanted (idles (idsOf (now (job .entry))) (factsOf (R·Register .meaning (now (register .entry)))) (goalAt (nodesOf (now (job .entry))) (range .body)) (bind (range .variable) x binding)))
-        (idsOf (now (job .entry))) ⌝ }
+    ensures { λ r. ⌜ r ≡ keeps-any (now (job .entry)) (R·Register .meaning (now (register .entry))) wanted range binding ⌝ }
 {
     for id in 0..job.ids() {
         let bound = binding.with(range.variable, id);
@@ -124,7 +119,7 @@ fn pending<R: Register>(
     binding: Binding,
     ends: Ends,
 ) -> bool
-    ensures { λ r. ⌜ r ≡ idles (idsOf (now (job .entry))) (factsOf (R·Register .meaning (now (register .entry)))) (with-ends ends (goalAt (nodesOf (now (job .entry))) number)) binding ⌝ }
+    ensures { λ r. ⌜ r ≡ keeps (now (job .entry)) (R·Register .meaning (now (register .entry))) (with-ends ends (nodeOf (now (job .entry)) number)) binding ⌝ }
 {
     match node_at(job, number) {
         Node::Until(_, hold, reach) => until(
@@ -145,7 +140,7 @@ fn pending<R: Register>(
 // The same of one part, from the answers for its own parts.
 fn one_part<R: Register>(job: &Job, register: &R, part: Part, gave: &Vec<bool>) -> bool
     requires { ⌜ before (length (vec-items (now gave))) part ≡ true ⌝ }
-    ensures { λ r. ⌜ r ≡ part-idles (idsOf (now (job .entry))) (factsOf (R·Register .meaning (now (register .entry)))) (nodesOf (now (job .entry))) (λ x. getD (vec-items (now (gave .entry))) x false) part ⌝ }
+    ensures { λ r. ⌜ r ≡ keeps-part (now (job .entry)) (R·Register .meaning (now (register .entry))) (vec-items (now (gave .entry))) part ⌝ }
 {
     match part {
         Part::True => true,
@@ -163,9 +158,9 @@ fn one_part<R: Register>(job: &Job, register: &R, part: Part, gave: &Vec<bool>) 
 
 // The answers for every part of a label, each once and in the order of its table.
 fn every_part<R: Register>(label: &Label, job: &Job, register: &R, gave: &mut Vec<bool>)
-    requires { ⌜ length (vec-items (now label .table .items)) ≤ vec-len (now gave) ⌝ }
+    requires { ⌜ length (partsIn (now label .table)) ≤ vec-len (now gave) ⌝ }
     ensures len { λ _. ⌜ vec-len (now (gave .exit)) ≡ vec-len (now (gave .entry)) ⌝ }
-    ensures gave { λ _. ⌜ ((k : ℕ) → k < length (vec-items (now (label .entry) .table .items)) → getD (vec-items (now (gave .exit))) k false ≡ idling (idsOf (now (job .entry))) (factsOf (R·Register .meaning (now (register .entry)))) (nodesOf (now (job .entry))) (labelAt (vec-items (now (label .entry) .table .items)) k)) ⌝ }
+    ensures gave { λ _. ⌜ ((k : ℕ) → Stands (now (label .entry) .table) k → getD (vec-items (now (gave .exit))) k false ≡ keeps-label (now (job .entry)) (R·Register .meaning (now (register .entry))) (labelIn (now (label .entry) .table) k)) ⌝ }
 {
     for k in 0..label.table.len() {
         let keeps = one_part(job, register, label.table.part(k), gave);

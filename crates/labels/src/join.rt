@@ -1,14 +1,10 @@
 ghost use mathlib.Core.Path.{_≡_};
 ghost use mathlib.Core.Bool.{true, false};
-ghost use Prim.Native.Nat.{_<_};
-ghost use lib.ListN.{length};
-ghost use Rattle.std.specs.Of.Vec.{vec-items};
 ghost use Rattle.labels.specs.Labels.{TRUE, FALSE};
 ghost use Rattle.labels.specs.Joining.{negate as negated, conjoin as conjoined, disjoin as disjoined};
 ghost use Rattle.labels.specs.Connectives.{joinBy, startOf};
 ghost use Rattle.labels.specs.Progress.{settled};
-ghost use Rattle.labels.specs.Table.{labelAt};
-ghost use Rattle.labels.specs.Growth.{Added};
+ghost use Rattle.labels.specs.TableView.{labelIn, Stands, Adds};
 use crate::connective::Connective;
 use crate::part::Part;
 use crate::table::Full;
@@ -17,9 +13,9 @@ use crate::table::Table;
 // The simplified joinings of labels of a table, by their places.
 impl Table {
     pub fn is_true(&self, place: usize) -> bool
-        requires { ⌜ place < length (vec-items (now self .items)) ⌝ }
-        ensures yes { λ r. ⌜ (r ≡ true → labelAt (vec-items (now (self .entry) .items)) place ≡ TRUE) ⌝ }
-        ensures no { λ r. ⌜ (r ≡ false → labelAt (vec-items (now (self .entry) .items)) place ≡ TRUE → ⊥) ⌝ }
+        requires { ⌜ Stands (now self) place ⌝ }
+        ensures yes { λ r. ⌜ (r ≡ true → labelIn (now (self .entry)) place ≡ TRUE) ⌝ }
+        ensures no { λ r. ⌜ (r ≡ false → labelIn (now (self .entry)) place ≡ TRUE → ⊥) ⌝ }
     {
         match self.part(place) {
             Part::True => true,
@@ -28,9 +24,9 @@ impl Table {
     }
 
     pub fn is_false(&self, place: usize) -> bool
-        requires { ⌜ place < length (vec-items (now self .items)) ⌝ }
-        ensures yes { λ r. ⌜ (r ≡ true → labelAt (vec-items (now (self .entry) .items)) place ≡ FALSE) ⌝ }
-        ensures no { λ r. ⌜ (r ≡ false → labelAt (vec-items (now (self .entry) .items)) place ≡ FALSE → ⊥) ⌝ }
+        requires { ⌜ Stands (now self) place ⌝ }
+        ensures yes { λ r. ⌜ (r ≡ true → labelIn (now (self .entry)) place ≡ FALSE) ⌝ }
+        ensures no { λ r. ⌜ (r ≡ false → labelIn (now (self .entry)) place ≡ FALSE → ⊥) ⌝ }
     {
         match self.part(place) {
             Part::False => true,
@@ -41,7 +37,7 @@ impl Table {
     // A truth, as TRUE or FALSE.
     pub fn settle(&mut self, truth: bool) -> Result<usize, Full>
         ensures limit { λ _. ⌜ now (self .exit) .limit ≡ now (self .entry) .limit ⌝ }
-        ensures outcome { λ r. ⌜ Added (now (self .entry) .limit) (vec-items (now (self .entry) .items)) (vec-items (now (self .exit) .items)) (settled truth) r ⌝ }
+        ensures outcome { λ r. ⌜ Adds (now (self .entry)) (now (self .exit)) (settled truth) r ⌝ }
     {
         if truth {
             self.add(Part::True)
@@ -51,9 +47,9 @@ impl Table {
     }
 
     pub fn negate(&mut self, place: usize) -> Result<usize, Full>
-        requires { ⌜ place < length (vec-items (now self .items)) ⌝ }
+        requires { ⌜ Stands (now self) place ⌝ }
         ensures limit { λ _. ⌜ now (self .exit) .limit ≡ now (self .entry) .limit ⌝ }
-        ensures outcome { λ r. ⌜ Added (now (self .entry) .limit) (vec-items (now (self .entry) .items)) (vec-items (now (self .exit) .items)) (negated (labelAt (vec-items (now (self .entry) .items)) place)) r ⌝ }
+        ensures outcome { λ r. ⌜ Adds (now (self .entry)) (now (self .exit)) (negated (labelIn (now (self .entry)) place)) r ⌝ }
     {
         match self.part(place) {
             Part::True => self.add(Part::False),
@@ -64,10 +60,10 @@ impl Table {
     }
 
     pub fn conjoin(&mut self, i: usize, j: usize) -> Result<usize, Full>
-        requires left { ⌜ i < length (vec-items (now self .items)) ⌝ }
-        requires right { ⌜ j < length (vec-items (now self .items)) ⌝ }
+        requires left { ⌜ Stands (now self) i ⌝ }
+        requires right { ⌜ Stands (now self) j ⌝ }
         ensures limit { λ _. ⌜ now (self .exit) .limit ≡ now (self .entry) .limit ⌝ }
-        ensures outcome { λ r. ⌜ Added (now (self .entry) .limit) (vec-items (now (self .entry) .items)) (vec-items (now (self .exit) .items)) (conjoined (labelAt (vec-items (now (self .entry) .items)) i) (labelAt (vec-items (now (self .entry) .items)) j)) r ⌝ }
+        ensures outcome { λ r. ⌜ Adds (now (self .entry)) (now (self .exit)) (conjoined (labelIn (now (self .entry)) i) (labelIn (now (self .entry)) j)) r ⌝ }
     {
         if self.is_false(i) {
             return Ok(i);
@@ -88,10 +84,10 @@ impl Table {
     }
 
     pub fn disjoin(&mut self, i: usize, j: usize) -> Result<usize, Full>
-        requires left { ⌜ i < length (vec-items (now self .items)) ⌝ }
-        requires right { ⌜ j < length (vec-items (now self .items)) ⌝ }
+        requires left { ⌜ Stands (now self) i ⌝ }
+        requires right { ⌜ Stands (now self) j ⌝ }
         ensures limit { λ _. ⌜ now (self .exit) .limit ≡ now (self .entry) .limit ⌝ }
-        ensures outcome { λ r. ⌜ Added (now (self .entry) .limit) (vec-items (now (self .entry) .items)) (vec-items (now (self .exit) .items)) (disjoined (labelAt (vec-items (now (self .entry) .items)) i) (labelAt (vec-items (now (self .entry) .items)) j)) r ⌝ }
+        ensures outcome { λ r. ⌜ Adds (now (self .entry)) (now (self .exit)) (disjoined (labelIn (now (self .entry)) i) (labelIn (now (self .entry)) j)) r ⌝ }
     {
         if self.is_true(i) {
             return Ok(i);
@@ -112,10 +108,10 @@ impl Table {
     }
 
     pub fn join(&mut self, by: Connective, i: usize, j: usize) -> Result<usize, Full>
-        requires left { ⌜ i < length (vec-items (now self .items)) ⌝ }
-        requires right { ⌜ j < length (vec-items (now self .items)) ⌝ }
+        requires left { ⌜ Stands (now self) i ⌝ }
+        requires right { ⌜ Stands (now self) j ⌝ }
         ensures limit { λ _. ⌜ now (self .exit) .limit ≡ now (self .entry) .limit ⌝ }
-        ensures outcome { λ r. ⌜ Added (now (self .entry) .limit) (vec-items (now (self .entry) .items)) (vec-items (now (self .exit) .items)) (joinBy by (labelAt (vec-items (now (self .entry) .items)) i) (labelAt (vec-items (now (self .entry) .items)) j)) r ⌝ }
+        ensures outcome { λ r. ⌜ Adds (now (self .entry)) (now (self .exit)) (joinBy by (labelIn (now (self .entry)) i) (labelIn (now (self .entry)) j)) r ⌝ }
     {
         match by {
             Connective::And => self.conjoin(i, j),
@@ -126,7 +122,7 @@ impl Table {
     // The label from which a quantifier joins.
     pub fn start(&mut self, by: Connective) -> Result<usize, Full>
         ensures limit { λ _. ⌜ now (self .exit) .limit ≡ now (self .entry) .limit ⌝ }
-        ensures outcome { λ r. ⌜ Added (now (self .entry) .limit) (vec-items (now (self .entry) .items)) (vec-items (now (self .exit) .items)) (startOf by) r ⌝ }
+        ensures outcome { λ r. ⌜ Adds (now (self .entry)) (now (self .exit)) (startOf by) r ⌝ }
     {
         match by {
             Connective::And => self.add(Part::True),

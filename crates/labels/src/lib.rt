@@ -8,7 +8,7 @@ mod hash;
 mod idle;
 mod interval;
 mod join;
-mod known;
+pub mod known;
 pub mod label;
 mod look;
 pub mod part;

@@ -1,8 +1,5 @@
 ghost use mathlib.Core.Path.{_≡_};
-ghost use Rattle.std.specs.Of.Vec.{vec-items};
-ghost use Rattle.goals.specs.JobView.{idsOf, nodesOf};
-ghost use Rattle.labels.specs.Held.{factsOf};
-ghost use Rattle.labels.specs.Worked.{Worked};
+ghost use Rattle.labels.specs.JobWalks.{Works-out};
 ghost use Rattle.labels.specs.LabelCalls.{labelOf, progressAnswer, afterProgress};
 use crate::compact::copy;
 use crate::compact::mark;
@@ -24,7 +21,7 @@ fn work_out<R: Register>(
     register: &R,
     span: Span,
 ) -> Result<usize, LabelRefusal>
-    ensures { λ r. ⌜ Worked (idsOf (now (job .entry))) (factsOf (R·Register .meaning (now (register .entry)))) (span .hours) (nodesOf (now (job .entry))) (labelOf (now (label .entry))) (vec-items (now (workspace .exit) .fresh .items)) r ⌝ }
+    ensures { λ r. ⌜ Works-out (now (job .entry)) (R·Register .meaning (now (register .entry))) span (labelOf (now (label .entry))) (now (workspace .exit) .fresh) r ⌝ }
 {
     workspace.work.clear();
     match every_part(

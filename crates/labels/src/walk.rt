@@ -1,16 +1,9 @@
 ghost use mathlib.Core.Path.{_≡_};
-ghost use mathlib.Core.List.{_∷_, _++_};
 ghost use Prim.Native.Nat.{_<_};
-ghost use Rattle.std.specs.Of.Vec.{vec-items};
-ghost use Rattle.goals.specs.JobView.{idsOf, nodesOf};
-ghost use Rattle.labels.specs.Goals.{goalAt, until as untilOf};
 ghost use Rattle.labels.specs.Labels.{waiting as waitingOf};
-ghost use Rattle.labels.specs.Connectives.{joinBy};
-ghost use Rattle.labels.specs.Progress.{rest as restOf, progress};
-ghost use Rattle.labels.specs.Work.{results};
-ghost use Rattle.labels.specs.Growth.{Outcome, Added};
-ghost use Rattle.labels.specs.Held.{factsOf};
-ghost use Rattle.labels.specs.Walks.{Walked, joinedTo, resultsTo};
+ghost use Rattle.labels.specs.Progress.{rest as restOf};
+ghost use Rattle.labels.specs.TableView.{Adds};
+ghost use Rattle.labels.specs.JobWalks.{nodeOf, waitOf, Walks, Walks-pair, Walks-range};
 use crate::binding::Binding;
 use crate::connective::Connective;
 use crate::interval::ends_after;
@@ -60,7 +53,7 @@ pub struct Range {
 // A goal node, pending with its own ends.
 pub fn waiting(table: &mut Table, job: &Job, number: usize, binding: Binding) -> Result<usize, Full>
     ensures limit { λ _. ⌜ now (table .exit) .limit ≡ now (table .entry) .limit ⌝ }
-    ensures outcome { λ r. ⌜ Added (now (table .entry) .limit) (vec-items (now (table .entry) .items)) (vec-items (now (table .exit) .items)) (waitingOf (goalAt (nodesOf (now (job .entry))) number) binding) r ⌝ }
+    ensures outcome { λ r. ⌜ Adds (now (table .entry)) (now (table .exit)) (waitingOf (nodeOf (now (job .entry)) number) binding) r ⌝ }
 {
     let ends = own_ends(node_at(job, number));
     table.add(Part::Pending {
@@ -79,7 +72,7 @@ pub fn rest(
     ends: Ends,
 ) -> Result<usize, Full>
     ensures limit { λ _. ⌜ now (table .exit) .limit ≡ now (table .entry) .limit ⌝ }
-    ensures outcome { λ r. ⌜ Added (now (table .entry) .limit) (vec-items (now (table .entry) .items)) (vec-items (now (table .exit) .items)) (restOf (span .hours) node binding ends) r ⌝ }
+    ensures outcome { λ r. ⌜ Adds (now (table .entry)) (now (table .exit)) (restOf (span .hours) node binding ends) r ⌝ }
 {
     if is_passed(span, ends.upper) {
         return table.add(Part::False);
@@ -102,7 +95,7 @@ pub fn node<R: Register>(
     binding: Binding,
 ) -> Result<usize, Full>
     ensures limit { λ _. ⌜ now (table .exit) .limit ≡ now (table .entry) .limit ⌝ }
-    ensures outcome { λ r. ⌜ Walked (idsOf (now (job .entry))) (factsOf (R·Register .meaning (now (register .entry)))) (span .hours) (now (table .entry) .limit) (vec-items (now (table .entry) .items)) (vec-items (now (table .exit) .items)) (goalAt (nodesOf (now (job .entry))) number) binding r ⌝ }
+    ensures outcome { λ r. ⌜ Walks (now (job .entry)) (R·Register .meaning (now (register .entry))) span (now (table .entry)) (now (table .exit)) (nodeOf (now (job .entry)) number) binding r ⌝ }
 {
     match node_at(job, number) {
         Node::True => table.settle(true),
@@ -175,16 +168,7 @@ fn joined<R: Register>(
     requires left { ⌜ pair .left < pair .node ⌝ }
     requires right { ⌜ pair .right < pair .node ⌝ }
     ensures limit { λ _. ⌜ now (table .exit) .limit ≡ now (table .entry) .limit ⌝ }
-    ensures outcome { λ r. ⌜ Outcome (now (table .entry) .limit) (vec-items (now (table .entry) .items)) (vec-items (now (table .exit) .items))
-        (joinBy (pair .by)
-        (progress (idsOf (now (job .entry))) (factsOf (R·Register .meaning (now (register .entry)))) (span .hours) (goalAt (nodesOf (now (job .entry))) (pair .left)) binding)
-        (progress (idsOf (now (job .entry))) (factsOf (R·Register .meaning (now (register .entry)))) (span .hours) (goalAt (nodesOf (now (job .entry))) (pair .right)) binding))
-        (joinBy (pair .by)
-        (progress (idsOf (now (job .entry))) (factsOf (R·Register .meaning (now (register .entry)))) (span .hours) (goalAt (nodesOf (now (job .entry))) (pair .left)) binding)
-        (progress (idsOf (now (job .entry))) (factsOf (R·Register .meaning (now (register .entry)))) (span .hours) (goalAt (nodesOf (now (job .entry))) (pair .right)) binding)
-        ∷ (results (idsOf (now (job .entry))) (factsOf (R·Register .meaning (now (register .entry)))) (span .hours) (goalAt (nodesOf (now (job .entry))) (pair .left)) binding
-        ++ results (idsOf (now (job .entry))) (factsOf (R·Register .meaning (now (register .entry)))) (span .hours) (goalAt (nodesOf (now (job .entry))) (pair .right)) binding))
-        r ⌝ }
+    ensures outcome { λ r. ⌜ Walks-pair (now (job .entry)) (R·Register .meaning (now (register .entry))) span (now (table .entry)) (now (table .exit)) pair binding r ⌝ }
 {
     let p = node(table, job, register, span, pair.left, binding)?;
     let q = node(table, job, register, span, pair.right, binding)?;
@@ -203,7 +187,7 @@ pub fn until<R: Register>(
     requires hold { ⌜ wait .hold < wait .node ⌝ }
     requires reach { ⌜ wait .reach < wait .node ⌝ }
     ensures limit { λ _. ⌜ now (table .exit) .limit ≡ now (table .entry) .limit ⌝ }
-    ensures outcome { λ r. ⌜ Walked (idsOf (now (job .entry))) (factsOf (R·Register .meaning (now (register .entry)))) (span .hours) (now (table .entry) .limit) (vec-items (now (table .entry) .items)) (vec-items (now (table .exit) .items)) (untilOf (wait .node) (wait .ends) (goalAt (nodesOf (now (job .entry))) (wait .hold)) (goalAt (nodesOf (now (job .entry))) (wait .reach))) binding r ⌝ }
+    ensures outcome { λ r. ⌜ Walks (now (job .entry)) (R·Register .meaning (now (register .entry))) span (now (table .entry)) (now (table .exit)) (waitOf (now (job .entry)) wait) binding r ⌝ }
 {
     let p = node(table, job, register, span, wait.hold, binding)?;
     let later = rest(table, span, wait.node, binding, wait.ends)?;
@@ -226,10 +210,7 @@ fn quantified<R: Register>(
 ) -> Result<usize, Full>
     requires { ⌜ range .body < range .node ⌝ }
     ensures limit { λ _. ⌜ now (table .exit) .limit ≡ now (table .entry) .limit ⌝ }
-    ensures outcome { λ r. ⌜ Outcome (now (table .entry) .limit) (vec-items (now (table .entry) .items)) (vec-items (now (table .exit) .items))
-        (joinedTo (idsOf (now (job .entry))) (factsOf (R·Register .meaning (now (register .entry)))) (span .hours) (range .by) (range .variable) (range .bound) (goalAt (nodesOf (now (job .entry))) (range .body)) binding (idsOf (now (job .entry))))
-        (resultsTo (idsOf (now (job .entry))) (factsOf (R·Register .meaning (now (register .entry)))) (span .hours) (range .by) (range .variable) (range .bound) (goalAt (nodesOf (now (job .entry))) (range .body)) binding (idsOf (now (job .entry))))
-        r ⌝ }
+    ensures outcome { λ r. ⌜ Walks-range (now (job .entry)) (R·Register .meaning (now (register .entry))) span (now (table .entry)) (now (table .exit)) range binding r ⌝ }
 {
     let mut so_far = table.start(range.by)?;
     for id in 0..job.ids() {

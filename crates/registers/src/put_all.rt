@@ -65,7 +65,7 @@ fn count_new<R: Register, L: FactList>(register: &R, list: &L) -> usize
 }
 
 // Does the fact stand before the index?
-fn is_before<L: FactList>(list: &L, index: usize, fact: Fact) -> bool
+pub fn is_before<L: FactList>(list: &L, index: usize, fact: Fact) -> bool
     ensures { λ r. ⌜ r ≡ listedIn (take index (L·FactList .listed (now (list .entry)))) (fact .predicate) (fact .first) (fact .second) ⌝ }
 {
     for k in 0..index {

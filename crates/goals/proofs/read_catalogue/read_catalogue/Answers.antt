@@ -8,8 +8,28 @@ use Rattle.goals.specs.CatalogueMeaning.{soundOperations}
 use Rattle.goals.specs.Sections.{operationsAt}
 use Rattle.goals.specs.Entries.{predicateText, operationText}
 use Rattle.goals.proofs.PredicateSteps.{predicates-count}
+use Rattle.goals.proofs.BoundSteps.{counts-in-limits}
+use native.Mathlib.Omega.{arith}
+use mathlib.Core.Bool.{true}
 use Rattle.goals.proofs.OperationSteps.{operations-count}
 use Rattle.goals.proofs.read_catalogue.read_catalogue.Needs as need
+
+pub read-operations-requires : need.read-operations-requires
+read-operations-requires c κs =
+    let ps = c .read-predicates .last .predicates in
+    let p = c .if-not-read-predicates .ensures tt in
+    let counts : soundCounts (c .args .frame .ids) (c .args .frame .predicates) (c .args .frame .operations) ≡ true = sym (c .if-not-counts-in-limits .ensures tt) in
+    let limits = counts-in-limits (c .args .frame .ids) (c .args .frame .predicates) (c .args .frame .operations) counts in
+    let n : length (vec-items ps) ≡ c .args .frame .predicates
+    = sym (length-map (vec-items ps) predicateText) ∙ (ap length (p .0) ∙ predicates-count (c .args .file .now) (c .args .frame .predicates) 14) in
+    record {
+      none = c .args .room .«no_operations»;
+      room = c .args .room .«room_operations»;
+      few = limits .2;
+      near = c .pre;
+      some = limits .0;
+      named = omega (arith, ap length (c .as-slice .ensures .value), n, limits .1);
+    }
 
 pub ghost-result : need.ghost-result
 ghost-result c =
@@ -27,7 +47,7 @@ ghost-result c =
         (
           ap (soundOperations (c .args .frame .ids) (map predicateText (vec-items ps))) (o .0)
               ∙ (ap (λ l. soundOperations (c .args .frame .ids) (map predicateText l) (operationsAt (c .args .file .now) (c .args .frame .operations) (c .args .frame .«operations_at»))) (sym (c .as-slice .ensures .value)) ∙ o .1),
-          tt,
+          (o .2, tt),
         ),
       ),
     )

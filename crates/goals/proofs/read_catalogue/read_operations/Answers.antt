@@ -6,6 +6,8 @@ use Rattle.std.specs.Of.Vec.{vec-items}
 use Rattle.std.proofs.shelf.Lists.{nil-from-length, append-nil}
 use Rattle.goals.specs.Sections.{operationsAt}
 use Rattle.goals.specs.CatalogueMeaning.{soundOperations}
+use Rattle.goals.specs.EntryBounds.{operationsInside}
+use Rattle.goals.proofs.BoundSteps.{no-operations-inside, operations-inside-push}
 use Rattle.goals.specs.Entries.{predicateText, operationText}
 use Rattle.goals.proofs.OperationSteps.{rest-start, rest-none, operations-table-more, operations-test-more, no-operations, operation-at-fault}
 use Rattle.goals.proofs.read_catalogue.read_operations.Needs as need
@@ -20,6 +22,7 @@ loop-k-holds c =
       c .pre .none,
       c .pre .room,
       omega arith,
+      ap (operationsInside (c .args .ids)) none ∙ no-operations-inside (c .args .ids),
     )
 
 pub returns-in-rest : need.returns-in-rest
@@ -42,6 +45,7 @@ loop-k-again c =
       omega (arith, len, c .loop-k .inv .2),
       omega (arith, cap, c .loop-k .inv .3),
       omega (arith, c .loop-k .inv .4, c .entries .ensures .bound),
+      ap (operationsInside (c .args .ids)) items ∙ operations-inside-push (c .args .ids) (vec-items (c .loop-k .operations)) (c .in-Some .operation) (c .loop-k .inv .5) (c .in-Some .ensures tt .2),
     )
 
 pub returns : need.returns
@@ -50,4 +54,4 @@ returns c =
     = c .loop-k .inv .0
     ∙ (ap (λ t. map operationText (vec-items (c .loop-k .operations)) ++ t) (rest-none (c .args .file .now) (c .args .count) (c .loop-k .k) (c .loop-k .at) (c .loop-k-test .left))
     ∙ append-nil (map operationText (vec-items (c .loop-k .operations)))) in
-    (sym e, ap (soundOperations (c .args .ids) (map predicateText (c .args .predicates .now))) e ∙ c .loop-k .inv .1)
+    (sym e, ap (soundOperations (c .args .ids) (map predicateText (c .args .predicates .now))) e ∙ c .loop-k .inv .1, c .loop-k .inv .5)

@@ -5,6 +5,7 @@ use Prim.Native.Nat.{_+_, _-_, _*_, _≤_}
 use Rattle.std.specs.Of.Vec.{vec-items, vec-len, vec-cap}
 use Rattle.goals.specs.Sections.{operationsAt}
 use Rattle.goals.specs.CatalogueMeaning.{soundOperations}
+use Rattle.goals.specs.EntryBounds.{operationsInside}
 use Rattle.goals.specs.Entries.{predicateText, operationText}
 use Rattle.goals.proofs.read_catalogue.read_operations.Given as given
 
@@ -16,3 +17,4 @@ Inv-loop-k l =
     × (vec-len (l .operations) ≡ l .k)
     × (64 ≤ vec-cap (l .operations))
     × (l .at ≤ l .start + 2301 * l .k)
+    × (operationsInside (l .ids) (vec-items (l .operations)) ≡ true)

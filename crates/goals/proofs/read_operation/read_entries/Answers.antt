@@ -8,6 +8,8 @@ use Rattle.goals.specs.Sections.{entriesAt}
 use Rattle.goals.specs.CatalogueRules.{soundEach, soundEntries}
 use Rattle.goals.specs.Entries.{predicateText, entryText}
 use Rattle.goals.proofs.EntrySteps.{entries-too-many, entries-bad, entries-good, each-more, each-all, each-start, no-entries, texts-more}
+use Rattle.goals.specs.EntryBounds.{entriesInside}
+use Rattle.goals.proofs.BoundSteps.{no-inside, inside-more}
 use Rattle.goals.proofs.read_operation.read_entries.Needs as need
 
 pub returns-then-count-gt-MOST-ENTRIES : need.returns-then-count-gt-MOST-ENTRIES
@@ -19,6 +21,7 @@ loop-k-holds c = (
   no-entries (c .args .file .now) (c .args .at),
   each-start (c .args .against .needs) (c .args .against .ids) (map predicateText (c .args .predicates .now)) (c .args .against .parameters) (c .args .file .now) (c .from-count .result) (c .args .at),
   refl,
+  no-inside (c .args .against .ids) (c .args .against .parameters),
 )
 
 pub returns-in-rest : need.returns-in-rest
@@ -33,6 +36,7 @@ loop-k-again c = (
   texts-more (c .loop-k .items) (c .loop-k .k) (c .in-Some .entry) (c .args .file .now) (c .args .at) (omega (arith, c .loop-k .inv .2)) (c .loop-k .inv .0) (c .in-Some .ensures tt .0),
   c .loop-k .inv .1 ∙ each-more (c .args .against .needs) (c .args .against .ids) (map predicateText (c .args .predicates .now)) (c .args .against .parameters) (c .args .file .now) (c .from-count .result) (c .loop-k .k) (c .args .at) true (c .loop-k-test .taken) (c .in-Some .ensures tt .1),
   length-set (c .loop-k .items) (c .loop-k .k) (c .in-Some .entry) ∙ c .loop-k .inv .2,
+  inside-more (c .args .against .ids) (c .args .against .parameters) (c .loop-k .items) (c .loop-k .k) (c .in-Some .entry) (omega (arith, c .loop-k .inv .2)) (c .loop-k .inv .3) (c .in-Some .ensures tt .2),
 )
 
 pub returns : need.returns
@@ -44,4 +48,8 @@ returns c =
           (ap (λ n. soundEach (c .args .against .needs) (c .args .against .ids) (map predicateText (c .args .predicates .now)) (c .args .against .parameters) (entriesAt (c .args .file .now) n (c .args .at))) (sym (c .from-count .ensures))
           ∙ (c .loop-k .inv .1
           ∙ each-all (c .args .against .needs) (c .args .against .ids) (map predicateText (c .args .predicates .now)) (c .args .against .parameters) (c .args .file .now) (c .from-count .result) (c .loop-k .k) (c .args .at) (c .loop-k-test .left))),
+      ap (λ n. entriesInside (c .args .against .ids) (c .args .against .parameters) (take n (c .loop-k .items))) (let e : c .from-count .result ≡ c .loop-k .k = omega arith in e) ∙ c .loop-k .inv .3,
     )
+
+pub ghost-result : need.ghost-result
+ghost-result c = (omega arith, (c .loop-k .inv .2, tt))

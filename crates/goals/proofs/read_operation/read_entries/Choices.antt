@@ -1,8 +1,10 @@
 use mathlib.Core.Path.{_≡_}
 use mathlib.Core.List.{map}
+use mathlib.Core.Bool.{true}
 use Prim.Native.Nat.{_+_, _-_, _*_}
 use lib.ListN.{length, take}
 use Rattle.goals.specs.Sections.{entriesAt}
+use Rattle.goals.specs.EntryBounds.{entriesInside}
 use Rattle.goals.specs.CatalogueRules.{soundEach}
 use Rattle.goals.specs.Entries.{predicateText, entryText}
 use Rattle.goals.proofs.read_operation.read_entries.Given as given
@@ -14,3 +16,4 @@ Inv-loop-k l =
     × (soundEach (l .against .needs) (l .against .ids) (map predicateText (l .predicates)) (l .against .parameters) (entriesAt (l .file) (l .count) (l .at))
     ≡ soundEach (l .against .needs) (l .against .ids) (map predicateText (l .predicates)) (l .against .parameters) (entriesAt (l .file) (l .count - l .k) (l .at + 3 * l .k)))
     × (length (l .items) ≡ 6)
+    × (entriesInside (l .against .ids) (l .against .parameters) (take (l .k) (l .items)) ≡ true)

@@ -1,5 +1,6 @@
 use mathlib.Core.Path.{sym, ap, _∙_}
 use native.Mathlib.Omega.{arith}
+use Rattle.std.proofs.shelf.Tests.{and-from, lt-ltb}
 use Rattle.goals.specs.Sections.{entryAt}
 use Rattle.goals.specs.CatalogueRules.{predicateNumber}
 use Rattle.goals.proofs.EntrySteps.{entry-outside, entry-first-bad, entry-second-bad, entry-good, entry-back}
@@ -29,4 +30,5 @@ returns c = (
   entry-good (c .args .against .needs) (c .args .against .ids) (c .args .predicates .now) (c .args .against .parameters) (entryAt (c .args .file .now) (c .args .at)) (c .from-2 .result)
       (c .from-2 .ensures ∙ (c .number-of-number .ensures ∙ ap (predicateNumber (c .args .against .needs)) (c .byte-at-byte .ensures)))
       _ (omega (arith, c .from .ensures, c .from-2 .ensures)) (c .byte-at .result) (c .byte-at-2 .result) (c .byte-at .ensures) (c .byte-at-2 .ensures) (c .in-Some .ensures tt .1) (c .in-Some-read-place .ensures tt .1),
+  and-from _ _ (lt-ltb (c .number-of-number .result) 16 (omega (arith, c .from .ensures, c .if-from-predicates .left, c .pre .few))) (and-from _ _ (c .in-Some .ensures tt .2) (c .in-Some-read-place .ensures tt .2)),
 )

@@ -8,6 +8,7 @@ use Rattle.goals.specs.Bytes.{byteAt}
 use Rattle.goals.specs.Sections.{operationAt}
 use Rattle.goals.specs.Entries.{predicateText, entryTexts}
 use Rattle.goals.proofs.EntrySteps.{entries-as, entries-at, operation-parameters, operation-span, operation-needs, operation-takes, operation-puts, operation-good, operation-back}
+use Rattle.goals.proofs.BoundSteps.{operation-inside}
 use Rattle.goals.proofs.read_operation.read_operation.Needs as need
 use Rattle.goals.proofs.read_operation.read_operation.Needs.{then-parameters-gt-MOST-PARAMETERS·by·then-parameters-gt-MOST-PARAMETERS, then-parameters-gt-MOST-PARAMETERS·by·else-parameters-gt-MOST-PARAMETERS·then-span-gt-LONGEST-SPAN}
 
@@ -52,4 +53,5 @@ returns c =
           (sym (entries-as true (c .args .ids) (map predicateText (c .args .predicates .now)) (c .args .file .now) (c .byte-at-parameters .ensures) (c .byte-at-need-count .ensures) refl) ∙ c .in-Some .ensures tt .1)
           (sym (entries-as false (c .args .ids) (map predicateText (c .args .predicates .now)) (c .args .file .now) (c .byte-at-parameters .ensures) (c .byte-at-take-count .ensures) t) ∙ c .in-Some-read-entries .ensures tt .1)
           (sym (entries-as false (c .args .ids) (map predicateText (c .args .predicates .now)) (c .args .file .now) (c .byte-at-parameters .ensures) (c .byte-at .ensures) u) ∙ c .in-Some-read-entries-2 .ensures tt .1),
+      operation-inside (c .args .ids) _ (c .if-parameters-gt-MOST-PARAMETERS .left) (c .if-span-gt-LONGEST-SPAN .left) (c .in-Some .ensures tt .2) (c .in-Some-read-entries .ensures tt .2) (c .in-Some-read-entries-2 .ensures tt .2),
     )

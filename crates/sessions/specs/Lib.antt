@@ -1,0 +1,10 @@
+pub mod Refusals
+pub mod Steps
+pub mod State
+pub mod Checks
+pub mod Answers
+pub mod Ledger
+pub mod Pieces
+pub mod Laws
+pub mod Report
+pub mod SessionView

@@ -2,10 +2,13 @@ use crate::build::BODY;
 use crate::build::Body;
 use crate::build::HEADER;
 use crate::build::Header;
+use crate::build::Operations;
+use crate::build::Predicate;
 use crate::build::build;
 use crate::shown::ShownFilling;
 use crate::shown::ShownFillingDisplay;
-use goals::fill::fill;
+use goals::job::JobRoom;
+use goals::read_job::fill;
 use registers::grid::Grid;
 use registers::grid::GridRegister;
 use registers::register::Register;
@@ -20,7 +23,7 @@ struct FactCase {
 }
 
 // The file has 3 predicates, of one place, of two and of none.
-const PLACE_CASES: [FactCase; 13] = [
+static PLACE_CASES: [FactCase; 12] = [
     FactCase {
         what: "predicate P - 1",
         ids: 2,
@@ -81,51 +84,41 @@ const PLACE_CASES: [FactCase; 13] = [
         ids: 2,
         fact: &[[2, 0, 1]],
     },
-    FactCase {
-        what: "no ids at all, one place",
-        ids: 0,
-        fact: &[[0, 0, 0]],
-    },
 ];
 
-// Files that allow more ids than a register does.
-const MANY_IDS_CASES: [FactCase; 6] = [
+// Files with as many ids as there may be.
+static MANY_IDS_CASES: [FactCase; 5] = [
     FactCase {
-        what: "N = 200, first id 127",
-        ids: 200,
+        what: "N = 128, first id 127",
+        ids: 128,
         fact: &[[0, 127, 0]],
     },
     FactCase {
-        what: "N = 200, first id 128",
-        ids: 200,
+        what: "N = 128, first id 128",
+        ids: 128,
         fact: &[[0, 128, 0]],
     },
     FactCase {
-        what: "N = 200, first id 150",
-        ids: 200,
-        fact: &[[0, 150, 0]],
-    },
-    FactCase {
-        what: "N = 200, first id 200",
-        ids: 200,
-        fact: &[[0, 200, 0]],
-    },
-    FactCase {
-        what: "N = 200, second id 127",
-        ids: 200,
+        what: "N = 128, second id 127",
+        ids: 128,
         fact: &[[1, 127, 127]],
     },
     FactCase {
-        what: "N = 200, second id 150",
-        ids: 200,
-        fact: &[[1, 127, 150]],
+        what: "N = 128, second id 128",
+        ids: 128,
+        fact: &[[1, 127, 128]],
+    },
+    FactCase {
+        what: "N = 128, both ids 255",
+        ids: 128,
+        fact: &[[1, 255, 255]],
     },
 ];
 
 fn print_fact(rt: &LibcRuntime, what: &str, header: Header, body: Body) -> io::Result<()> {
     let file = build(rt.alloc(), &Header { facts: 1, ..header }, &body)?;
     let mut grid = Grid::new(rt.alloc(), 1000)?;
-    let answer = ShownFilling(fill(&mut grid, file.as_slice()));
+    let answer = ShownFilling::of(fill(&mut grid, file.as_slice(), JobRoom::new(rt.alloc())?));
     let size = grid.size();
     println!(rt, "{what}: {answer}, size {size}")
 }
@@ -145,14 +138,86 @@ fn print_cases(rt: &LibcRuntime, cases: &[FactCase]) -> io::Result<()> {
     Ok(())
 }
 
-// A file that allows more predicates than a register does.
-fn print_17_predicates(rt: &LibcRuntime, what: &str, fact: &'static [[u8; 3]]) -> io::Result<()> {
+// As many predicates as there may be, of no place each.
+pub const SIXTEEN: &'static [Predicate] = &[
+    Predicate {
+        places: 0,
+        name: b"a",
+    },
+    Predicate {
+        places: 0,
+        name: b"b",
+    },
+    Predicate {
+        places: 0,
+        name: b"c",
+    },
+    Predicate {
+        places: 0,
+        name: b"d",
+    },
+    Predicate {
+        places: 0,
+        name: b"e",
+    },
+    Predicate {
+        places: 0,
+        name: b"f",
+    },
+    Predicate {
+        places: 0,
+        name: b"g",
+    },
+    Predicate {
+        places: 0,
+        name: b"h",
+    },
+    Predicate {
+        places: 0,
+        name: b"i",
+    },
+    Predicate {
+        places: 0,
+        name: b"j",
+    },
+    Predicate {
+        places: 0,
+        name: b"k",
+    },
+    Predicate {
+        places: 0,
+        name: b"l",
+    },
+    Predicate {
+        places: 0,
+        name: b"m",
+    },
+    Predicate {
+        places: 0,
+        name: b"n",
+    },
+    Predicate {
+        places: 0,
+        name: b"o",
+    },
+    Predicate {
+        places: 0,
+        name: b"p",
+    },
+];
+
+fn print_16_predicates(rt: &LibcRuntime, what: &str, fact: &'static [[u8; 3]]) -> io::Result<()> {
     let header = Header {
-        predicates: 17,
+        predicates: 16,
+        operations: 0,
         ..HEADER
     };
     let body = Body {
-        places: &[1, 2, 0, 0, 0, 0, 0, 0, 0, 0, 0, 0, 0, 0, 0, 0, 0],
+        predicates: SIXTEEN,
+        operations: Operations {
+            part: &[],
+            times: 0,
+        },
         facts: fact,
         ..BODY
     };
@@ -162,7 +227,6 @@ fn print_17_predicates(rt: &LibcRuntime, what: &str, fact: &'static [[u8; 3]]) -
 pub fn print_facts(rt: &LibcRuntime) -> io::Result<()> {
     print_cases(rt, &PLACE_CASES)?;
     print_cases(rt, &MANY_IDS_CASES)?;
-    print_17_predicates(rt, "P = 17, predicate 15", &[[15, 0, 0]])?;
-    print_17_predicates(rt, "P = 17, predicate 16", &[[16, 0, 0]])?;
-    print_17_predicates(rt, "P = 17, predicate 17", &[[17, 0, 0]])
+    print_16_predicates(rt, "P = 16, predicate 15", &[[15, 0, 0]])?;
+    print_16_predicates(rt, "P = 16, predicate 16", &[[16, 0, 0]])
 }

@@ -3,10 +3,12 @@ use crate::build::Body;
 use crate::build::HEADER;
 use crate::build::Header;
 use crate::build::LENGTH;
+use crate::build::Text;
 use crate::build::build;
 use crate::shown::ShownFilling;
 use crate::shown::ShownFillingDisplay;
-use goals::fill::fill;
+use goals::job::JobRoom;
+use goals::read_job::fill;
 use registers::grid::Grid;
 use registers::grid::GridRegister;
 use registers::register::Register;
@@ -15,7 +17,7 @@ use std::io;
 // Fills an empty grid from a file.
 fn print_file(rt: &LibcRuntime, what: &str, file: &[u8]) -> io::Result<()> {
     let mut grid = Grid::new(rt.alloc(), 1000)?;
-    let answer = ShownFilling(fill(&mut grid, file));
+    let answer = ShownFilling::of(fill(&mut grid, file, JobRoom::new(rt.alloc())?));
     let length = file.len();
     let size = grid.size();
     println!(rt, "{what}, {length} bytes: {answer}, size {size}")
@@ -28,7 +30,7 @@ struct HeaderCase {
     header: Header,
 }
 
-const MARK_CASES: [HeaderCase; 8] = [
+static MARK_CASES: [HeaderCase; 8] = [
     HeaderCase {
         what: "all right",
         header: HEADER,
@@ -84,7 +86,7 @@ const MARK_CASES: [HeaderCase; 8] = [
     },
 ];
 
-const COUNT_CASES: [HeaderCase; 10] = [
+static COUNT_CASES: [HeaderCase; 10] = [
     HeaderCase {
         what: "a predicate less",
         header: Header {
@@ -145,7 +147,7 @@ const COUNT_CASES: [HeaderCase; 10] = [
     },
 ];
 
-const ABSURD_CASES: [HeaderCase; 6] = [
+static ABSURD_CASES: [HeaderCase; 6] = [
     HeaderCase {
         what: "255 predicates",
         header: Header {
@@ -208,44 +210,47 @@ fn print_cases(rt: &LibcRuntime, cases: &[HeaderCase]) -> io::Result<()> {
     Ok(())
 }
 
-// A goal text as long as it says, or not.
+// A file whose goal text is as long as it says, or not.
 #[derive(Clone, Copy)]
 struct LengthCase {
     what: &'static str,
     said: u16,
-    goal_length: usize,
+    goal: &'static [u8],
 }
 
-const LENGTH_CASES: [LengthCase; 6] = [
+// So many steps make a file of 40,000 bytes with a goal text of three.
+const MANY_STEPS: u16 = 9989;
+
+static LENGTH_CASES: [LengthCase; 6] = [
     LengthCase {
         what: "40000 as said",
-        said: 39955,
-        goal_length: 39955,
+        said: 3,
+        goal: b"T  ",
     },
     LengthCase {
         what: "40001 as said",
-        said: 39956,
-        goal_length: 39956,
+        said: 4,
+        goal: b"T   ",
     },
     LengthCase {
         what: "40000 said, one short",
-        said: 39955,
-        goal_length: 39954,
+        said: 3,
+        goal: b"T ",
     },
     LengthCase {
         what: "40001 said, one short",
-        said: 39956,
-        goal_length: 39955,
+        said: 4,
+        goal: b"T  ",
     },
     LengthCase {
         what: "39999 said, one over",
-        said: 39954,
-        goal_length: 39955,
+        said: 2,
+        goal: b"T  ",
     },
     LengthCase {
         what: "40000 said, one over",
-        said: 39955,
-        goal_length: 39956,
+        said: 3,
+        goal: b"T   ",
     },
 ];
 
@@ -253,10 +258,15 @@ pub fn print_lengths(rt: &LibcRuntime) -> io::Result<()> {
     for case in &LENGTH_CASES {
         let header = Header {
             goal_length: case.said,
+            steps: MANY_STEPS,
             ..HEADER
         };
         let body = Body {
-            goal_length: case.goal_length,
+            goal: Text {
+                part: case.goal,
+                times: 1,
+            },
+            steps: usize::from(MANY_STEPS),
             ..BODY
         };
         let file = build(rt.alloc(), &header, &body)?;

@@ -93,11 +93,7 @@ fn step_at(file: &[u8], at: usize) -> Step {
 }
 
 fn byte_at(file: &[u8], at: usize) -> u8 {
-    if at < file.len() {
-        file[at]
-    } else {
-        0
-    }
+    if at < file.len() { file[at] } else { 0 }
 }
 
 fn print_look(rt: &LibcRuntime, look: Look) -> io::Result<()> {

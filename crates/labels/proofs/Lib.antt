@@ -28,3 +28,4 @@ pub mod Labelled
 pub mod Answering
 pub mod Idles
 pub mod Laws
+pub mod Meanings

@@ -28,3 +28,4 @@ pub mod LabelCalls
 pub mod Worked
 pub mod TableView
 pub mod JobWalks
+pub mod LabelTruth

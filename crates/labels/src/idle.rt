@@ -3,11 +3,13 @@ ghost use mathlib.Core.Bool.{true, false};
 ghost use Prim.Native.Nat.{ℕ, _≤_, _<_};
 ghost use lib.ListN.{length, getD};
 ghost use Rattle.std.specs.Of.Vec.{vec-len, vec-items};
+ghost use Rattle.std.specs.Vec.{made};
 ghost use Rattle.labels.specs.Goals.{with-ends};
 ghost use Rattle.labels.specs.Table.{before};
 ghost use Rattle.labels.specs.TableView.{partsIn, labelIn, Stands};
 ghost use Rattle.labels.specs.JobWalks.{nodeOf, waitOf, keeps, keeps-part, keeps-label, keeps-any};
 ghost use Rattle.labels.specs.LabelCalls.{labelOf, idlingAnswer};
+ghost use Rattle.labels.specs.LabelTruth.{Judges};
 use crate::binding::Binding;
 use crate::connective::Connective;
 use crate::known::is_known;
@@ -176,7 +178,8 @@ impl Label {
         job: &Job,
         register: &R,
     ) -> Result<bool, LabelRefusal>
-        ensures { λ r. ⌜ r ≡ idlingAnswer (now (job .entry)) (R·Register .meaning (now (register .entry))) (labelOf (now (self .entry))) ⌝ }
+        ensures answer { λ r. ⌜ r ≡ idlingAnswer (now (job .entry)) (R·Register .meaning (now (register .entry))) (labelOf (now (self .entry))) ⌝ }
+        ensures truth { λ r. ⌜ made r (λ b. Judges (now (job .entry)) (R·Register .meaning (now (register .entry))) (labelOf (now (self .entry))) b) ⌝ }
     {
         if !is_known(job, self) {
             return Err(LabelRefusal::OtherJob);

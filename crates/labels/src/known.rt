@@ -1,5 +1,6 @@
 ghost use mathlib.Core.Path.{_≡_};
 ghost use Prim.Native.Nat.{ℕ};
+ghost use Rattle.goals.specs.JobView.{idsOf, nodesOf, rootOf, Sound-job};
 ghost use Rattle.labels.specs.Known.{known-part};
 ghost use Rattle.labels.specs.LabelCalls.{labelOf, knownTo};
 use crate::label::Label;
@@ -19,7 +20,8 @@ fn is_known_part(part: Part, nodes: usize, ids: u16) -> bool
 
 // Does the job know every pending part of the label?
 pub fn is_known(job: &Job, label: &Label) -> bool
-    ensures { λ r. ⌜ r ≡ knownTo (now (job .entry)) (labelOf (now (label .entry))) ⌝ }
+    ensures answer { λ r. ⌜ r ≡ knownTo (now (job .entry)) (labelOf (now (label .entry))) ⌝ }
+    ensures sound { λ _. ⌜ Sound-job (idsOf (now (job .entry))) (nodesOf (now (job .entry))) (rootOf (now (job .entry))) ⌝ }
 {
     let nodes = job.node_count();
     let ids = job.ids();

@@ -1,8 +1,10 @@
 ghost use mathlib.Core.Path.{_≡_};
+ghost use mathlib.Core.Bool.{true};
 ghost use Prim.Native.Nat.{ℕ, _<_};
 ghost use lib.ListN.{length};
 ghost use Rattle.std.specs.Of.Vec.{vec-items};
-ghost use Rattle.labels.specs.Table.{Only-parts};
+ghost use Rattle.labels.specs.Order.{ordered-label};
+ghost use Rattle.labels.specs.Table.{labelAt, Only-parts};
 use crate::table::Table;
 use std::alloc::AllocError;
 use std::alloc::Global;
@@ -18,6 +20,7 @@ pub struct Label {
     ghost roomy: { table .limit ≡ 512 },
     ghost inside: { root < length (vec-items (table .items)) },
     ghost only: { Only-parts (vec-items (table .items)) root },
+    ghost ordered: { ordered-label (labelAt (vec-items (table .items)) root) ≡ true },
 }
 
 // Room for a label.

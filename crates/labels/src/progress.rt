@@ -1,6 +1,8 @@
 ghost use mathlib.Core.Path.{_≡_};
+ghost use Rattle.std.specs.Vec.{made};
 ghost use Rattle.labels.specs.JobWalks.{Works-out};
 ghost use Rattle.labels.specs.LabelCalls.{labelOf, progressAnswer, afterProgress};
+ghost use Rattle.labels.specs.LabelTruth.{Carries};
 use crate::compact::copy;
 use crate::compact::mark;
 use crate::each::every_part;
@@ -61,6 +63,7 @@ impl Label {
     ) -> Result<(), LabelRefusal>
         ensures answer { λ r. ⌜ r ≡ progressAnswer (now (job .entry)) (R·Register .meaning (now (register .entry))) span (labelOf (now (self .entry))) ⌝ }
         ensures after { λ _. ⌜ labelOf (now (self .exit)) ≡ afterProgress (now (job .entry)) (R·Register .meaning (now (register .entry))) span (labelOf (now (self .entry))) ⌝ }
+        ensures truth { λ r. ⌜ made r (λ _. Carries (now (job .entry)) (R·Register .meaning (now (register .entry))) span (labelOf (now (self .entry))) (labelOf (now (self .exit)))) ⌝ }
     {
         if !is_known(job, self) {
             return Err(LabelRefusal::OtherJob);

@@ -23,10 +23,13 @@ returns-then-not-is-known-part c =
     let n : ℕ = length (nodesOf (c .args .job .now)) in
     let N : ℕ = idsOf (c .args .job .now) in
     let kl : c .loop-k .k < length t = omega (arith, c .len-k-end .ensures, c .loop-k-test .taken) in
-    one-fails (λ k b e. ltb k n && ids-below N b) t (l .table .order) (l .root) (c .loop-k .k) kl (l .only)
-    (ap (known-part n N) (sym (c .part .ensures))
-    ∙ (ap₂ (λ x y. known-part x y (c .part .result)) (sym (c .node-count-nodes .ensures .value)) (sym (c .ids-ids .ensures .value))
-    ∙ (sym (c .is-known-part .ensures) ∙ c .if-not-is-known-part .taken)))
+    record {
+      sound = c .node-count-nodes .ensures .sound;
+      answer = one-fails (λ k b e. ltb k n && ids-below N b) t (l .table .order) (l .root) (c .loop-k .k) kl (l .only)
+          (ap (known-part n N) (sym (c .part .ensures))
+          ∙ (ap₂ (λ x y. known-part x y (c .part .result)) (sym (c .node-count-nodes .ensures .value)) (sym (c .ids-ids .ensures .value))
+          ∙ (sym (c .is-known-part .ensures) ∙ c .if-not-is-known-part .taken)));
+    }
 
 pub returns : need.returns
 unfolding labelOf knownTo
@@ -35,7 +38,10 @@ returns c =
     let t : List Part = vec-items (l .table .items) in
     let n : ℕ = length (nodesOf (c .args .job .now)) in
     let N : ℕ = idsOf (c .args .job .now) in
-    sym (all-pass (λ k b e. ltb k n && ids-below N b) t (l .table .order)
-    (λ k kl. ap₂ (λ x y. known-part x y (getD t k True)) (sym (c .node-count-nodes .ensures .value)) (sym (c .ids-ids .ensures .value))
-    ∙ c .loop-k .inv k (omega (arith, c .len-k-end .ensures)))
-    (l .root) (l .inside))
+    record {
+      sound = c .node-count-nodes .ensures .sound;
+      answer = sym (all-pass (λ k b e. ltb k n && ids-below N b) t (l .table .order)
+          (λ k kl. ap₂ (λ x y. known-part x y (getD t k True)) (sym (c .node-count-nodes .ensures .value)) (sym (c .ids-ids .ensures .value))
+          ∙ c .loop-k .inv k (omega (arith, c .len-k-end .ensures)))
+          (l .root) (l .inside));
+    }

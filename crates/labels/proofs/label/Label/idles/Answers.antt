@@ -9,17 +9,22 @@ use Rattle.std.specs.declared.result.Result.the-variants.{Ok, Err}
 use Rattle.std.proofs.shelf.Lists.{getD-read}
 use Rattle.labels.specs.declared.part.Part.{Part}
 use Rattle.labels.specs.LabelCalls.{labelOf}
+use Rattle.labels.proofs.Meanings.{judges}
 use Rattle.labels.proofs.Answering.{idling-other, idling-known}
 use Rattle.labels.proofs.label.Label.idles.Needs as need
 
 pub returns-then-not-is-known : need.returns-then-not-is-known
-returns-then-not-is-known g c =
-    idling-other (c .args .job .now) (g .R·Register .meaning (c .args .register .now)) (labelOf (c .args .self .now))
-    (sym (c .is-known .ensures) ∙ c .if-not-is-known .taken)
+returns-then-not-is-known g c = record {
+  answer = idling-other (c .args .job .now) (g .R·Register .meaning (c .args .register .now)) (labelOf (c .args .self .now))
+      (sym (c .is-known .ensures .answer) ∙ c .if-not-is-known .taken);
+  truth = tt;
+}
 
 pub returns : need.returns
 unfolding labelOf
 returns g c =
+    let job = c .args .job .now in
+    let m = g .R·Register .meaning (c .args .register .now) in
     let l = c .args .self .now in
     let t : List Part = vec-items (l .table .items) in
     let gave : List Bool = vec-items (c .every-part .last .gave) in
@@ -31,6 +36,8 @@ returns g c =
     let roomy : l .table .limit ≡ 512 = l .roomy in
     let inside : l .root < length t = l .inside in
     let here : c .index .result .now ≡ getD gave (l .root) false = getD-read gave (l .root) (c .index .result .now) (omega arith) (c .index .ensures) false in
-    ap Ok (here ∙ c .every-part .ensures .gave (l .root) inside)
-    ∙ idling-known (c .args .job .now) (g .R·Register .meaning (c .args .register .now)) (labelOf l)
-    (sym (c .is-known .ensures) ∙ c .if-not-is-known .left)
+    let is = here ∙ c .every-part .ensures .gave (l .root) inside in
+    record {
+      answer = ap Ok is ∙ idling-known job m (labelOf l) (sym (c .is-known .ensures .answer) ∙ c .if-not-is-known .left);
+      truth = judges job (c .is-known .ensures .sound) m (labelOf l) (l .ordered) (c .index .result .now) is;
+    }

@@ -37,7 +37,10 @@ FIRST, SECOND = 128, 129  # the first and the second parameter of an operation
 DROP, DRAW, WIPE = 0, 1, 2
 
 
-def footpath(steps):
+RULE = "G A ?l:label(?l) A ?f:tag(?l,?f) (path(?f)|stream(?f)|(!stream(?f) U !tag(?l,?f)))"
+
+
+def footpath(steps, goal=RULE):
     """A footpath and a stream share a number; a label row names the number until it is wiped."""
     predicates = [predicate("label", 1), predicate("path", 1), predicate("stream", 1), predicate("tag", 2)]
     operations = [
@@ -46,13 +49,28 @@ def footpath(steps):
         operation(2, 1, needs=[entry(TAG, FIRST, SECOND)], takes=[entry(TAG, FIRST, SECOND)]),
     ]
     facts = [(LABEL, 0, 0), (PATH, 1, 0), (TAG, 0, 1)]
-    goal = "G A ?l:label(?l) A ?f:tag(?l,?f) (path(?f)|stream(?f)|(!stream(?f) U !tag(?l,?f)))"
     return edition(2, predicates, operations, facts, goal, steps)
 
 
+DROP_FIRST = [(DROP, 1, 0, 0)]
+IN_ORDER = [(DROP, 1, 0, 0), (WIPE, 0, 1, 0), (DRAW, 1, 0, 0)]
+
 EXAMPLES = {
     "number_reused_at_once": footpath([(DROP, 1, 0, 0), (DRAW, 1, 0, 0), (WIPE, 0, 1, 0)]),
-    "row_wiped_first": footpath([(DROP, 1, 0, 0), (WIPE, 0, 1, 0), (DRAW, 1, 0, 0)]),
+    "row_wiped_first": footpath(IN_ORDER),
+    "nothing_done": footpath([]),
+    "row_never_wiped": footpath(DROP_FIRST),
+    "stream_within_three_hours": footpath(IN_ORDER, "F[0,3] stream(1)"),
+    "stream_within_two_hours": footpath(IN_ORDER, "F[0,2] stream(1)"),
+    "path_goes_at_once": footpath(DROP_FIRST, "X !path(1)"),
+    "no_such_operation": footpath(DROP_FIRST + [(3, 0, 0, 0)]),
+    "argument_too_high": footpath(DROP_FIRST + [(DRAW, 2, 0, 0)]),
+    "unused_argument": footpath([(DROP, 1, 1, 0)]),
+    "need_does_not_hold": footpath([(DRAW, 1, 0, 0)]),
+    "name_unknown": footpath(IN_ORDER, "G road(1)"),
+    "bracket_left_open": footpath(IN_ORDER, "G (path(1)"),
+    "mark_missing": b"EDQ" + footpath(IN_ORDER)[3:],
+    "last_byte_missing": footpath(IN_ORDER)[:-1],
 }
 
 

@@ -1,5 +1,5 @@
 -- What the grid's steps come to: bits of a row, the count of all rows, one bit written.
-use Rattle.std.proofs.Common.{◌≡◌, ℕ, zero, suc, ◌+◌, ◌-◌, ◌*◌, ◌/◌, ◌%◌, ◌^◌, ◌<◌, ◌≤◌, Bool, true, false, cond, ◌&&◌, eqb, ltb, leb, ◌⊎◌, List, length, get_or, set, replicate, sym, refl, ap, ◌∙◌, subst, ⊎_elim, suc-mul, one-mul, pow-suc, zero-mul, div-one, add-one, one-add, arith, lit<, get_or-set_other, get_or-set_same}
+use Rattle.std.proofs.Common.{◌≡◌, ℕ, zero, suc, ◌+◌, ◌-◌, ◌*◌, ◌/◌, ◌%◌, ◌^◌, ◌<◌, ◌≤◌, Bool, true, false, cond, ◌&&◌, eqb, ltb, leb, List, length, get_or, set, replicate, sym, refl, ap, ◌∙◌, subst, ⊎_elim, suc-mul, one-mul, pow-suc, zero-mul, div-one, add-one, one-add, arith, lit<, get_or-set_other, get_or-set_same}
 use native.Mathlib.Nat.{div-eq_of_lt, zero-div, mul-mod_left, mul-div_right}
 use lib.Bits.{bit_and, bit_or, bit_xor, or_zero_r, xor_zero_r}
 use lib.Count.{ones, ones_step, ones-le}
@@ -8,7 +8,7 @@ use Rattle.std.proofs.lemmas.List.{get_or-replicate, get_or_default, get_or_past
 use Rattle.std.proofs.lemmas.Nat.{and_mask, pow_pos, pow-add, pow_below, shl-shr, shr-shr, or_shr, xor_shr, or_mod, xor_mod, shr_below, mod_below}
 use Rattle.std.proofs.lemmas.Bool.{cases_Bool, cases_lt, cases_eq, cases_order, both_ways, cond-true, cond-false, and_parts, and_from, and_right, and_cases, eqb-true, eq-eqb, ne_eqb, ltb-true, ltb-false, leb-false, lt-ltb}
 use Rattle.registers.specs.Facts.{one, sum_below, count_of, in_bounds, same_fact, changed}
-use Rattle.registers.specs.Meaning.{Meaning, Lawful, has, size_of, limit_of, allowed, including, excluding, empty_of}
+use Rattle.registers.specs.Meaning.{Lawful, has, size_of, limit_of, allowed, including, excluding, empty_of}
 use Rattle.registers.specs.Grid.{bit_of, bits_of, grid_facts, grid_meaning}
 use Rattle.registers.specs.declared.fact.Fact.{Fact}
 use Rattle.registers.proofs.Counts.{count_none, count-changed, sum_same, same_at, same_parts}

@@ -1,13 +1,13 @@
 -- Laws of a register's meaning: what including and excluding a fact do to membership, size and limit,
 -- and what putting comes to in each of its cases. Crates above cite these, and not the definitions' texts.
-use Rattle.std.proofs.Common.{◌≡◌, ℕ, zero, suc, ◌+◌, ◌<◌, ◌≤◌, Bool, true, false, cond, not, ◌&&◌, ◌||◌, ltb, ◌⊎◌, List, [], ◌∷◌, ◌++◌, length, get_or, take, is_ok, Ok, Err, Result, sym, refl, ap, ◌∙◌, inl, inr, ⊎_elim, arith}
-use Rattle.std.proofs.lemmas.Bool.{cases_Bool, both_ways, cond-true, cond-false, not_from_true, not_from_false, or_left, or_right, or_from, lt-ltb, le-ltb, and_parts}
+use Rattle.std.proofs.Common.{◌≡◌, ℕ, ◌+◌, ◌<◌, ◌≤◌, Bool, true, false, cond, not, ◌||◌, ltb, is_ok, Ok, Err, Result, sym, refl, ap, ◌∙◌, ⊎_elim, arith}
+use Rattle.std.proofs.lemmas.Bool.{cases_Bool, cond-true, cond-false, not_from_true, not_from_false, or_left, or_right, or_from, lt-ltb, le-ltb}
 use Rattle.registers.specs.declared.fact.Fact.{Fact}
 use Rattle.registers.specs.declared.refusal.Refusal.{Refusal}
 use Rattle.registers.specs.declared.refusal.Refusal.TheVariants.{OutOfBounds, Full}
-use Rattle.registers.specs.Facts.{Facts, one, count_of, in_bounds, same_fact, changed}
-use Rattle.registers.specs.Meaning.{Meaning, Lawful, has, size_of, limit_of, allowed, including, excluding, empty_of, put_answer, after_put, after_take, including_all, all_allowed}
-use Rattle.registers.proofs.Counts.{count-changed, count_out, count_none, count-put_le, count-put_ge, count-all, same_at}
+use Rattle.registers.specs.Facts.{Facts, one}
+use Rattle.registers.specs.Meaning.{Meaning, has, size_of, limit_of, allowed, including, excluding, empty_of, put_answer, after_put, after_take}
+use Rattle.registers.proofs.Counts.{count-changed, count_none, count-put_le, count-put_ge, count-all, same_at}
 use Rattle.registers.proofs.Members.{by_points, changed_by, same_of}
 
 -- two meanings with the same facts and limit are equal

@@ -1,12 +1,12 @@
 -- Laws of putting whole lists: membership, size and limit with every fact of a list in, one more fact at a time.
-use Rattle.std.proofs.Common.{◌≡◌, ℕ, zero, suc, ◌+◌, ◌<◌, ◌≤◌, Bool, true, false, cond, not, ◌&&◌, ◌||◌, ltb, leb, ◌⊎◌, List, [], ◌∷◌, ◌++◌, length, take, drop, is_ok, Some, None, Ok, Err, Option, Result, sym, refl, ap, ◌∙◌, ⊎_elim, add-one, arith}
+use Rattle.std.proofs.Common.{◌≡◌, ℕ, zero, suc, ◌+◌, ◌<◌, ◌≤◌, Bool, true, false, cond, not, ◌&&◌, ◌||◌, ltb, leb, List, [], ◌∷◌, ◌++◌, length, take, drop, is_ok, Some, None, Ok, Err, Result, sym, refl, ap, ◌∙◌, ⊎_elim, arith}
 use Rattle.std.specs.List.{slice_get}
 use Rattle.std.proofs.lemmas.List.{take-append-drop, take_all, drop_all}
 use Rattle.std.proofs.lemmas.Bool.{cases_Bool, cond-true, cond-false, not_from_true, not_from_false, and_parts, or_from, or_left, or_right, lt-ltb, le-ltb, leb-true, leb-false}
 use Rattle.registers.specs.declared.fact.Fact.{Fact}
 use Rattle.registers.specs.declared.refusal.Refusal.{Refusal}
 use Rattle.registers.specs.declared.refusal.Refusal.TheVariants.{OutOfBounds, Full}
-use Rattle.registers.specs.Meaning.{Meaning, has, size_of, limit_of, allowed, including, put_answer, after_put, including_all, all_allowed, put_all_answer, after_put_all}
+use Rattle.registers.specs.Meaning.{Meaning, has, size_of, limit_of, allowed, including, after_put, including_all, all_allowed, put_all_answer, after_put_all}
 use Rattle.registers.specs.Records.{listed}
 use Rattle.registers.proofs.Members.{listed_as, listed-push}
 use Rattle.registers.proofs.Laws.{is, has-including, including_held, limit-including, size-including, size-including_le, size-including_ge, put_held, put-room}

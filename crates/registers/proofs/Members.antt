@@ -1,12 +1,12 @@
 -- Lists of records as sets of facts: one record more, one overwritten, one fewer.
-use Rattle.std.proofs.Common.{◌≡◌, ℕ, zero, suc, ◌+◌, ◌<◌, ◌≤◌, Bool, true, false, cond, not, ◌&&◌, ◌||◌, eqb, ltb, ◌⊎◌, List, [], ◌∷◌, ◌++◌, length, get_or, take, set, sym, refl, ap, ◌∙◌, inl, inr, ⊎_elim, arith, length-set}
+use Rattle.std.proofs.Common.{◌≡◌, ℕ, zero, suc, ◌+◌, ◌<◌, ◌≤◌, Bool, true, false, cond, ◌||◌, List, [], ◌∷◌, ◌++◌, length, get_or, set, sym, refl, ap, ◌∙◌, ⊎_elim, arith}
 use mathlib.Core.Path.{fun_ext}
-use Rattle.std.proofs.lemmas.Bool.{cases_Bool, both_ways, cond-true, cond-false, or_cases, true≢false}
+use Rattle.std.proofs.lemmas.Bool.{cases_Bool, cond-true, cond-false, or_cases, true≢false}
 use Rattle.registers.specs.Facts.{one, count_of, in_bounds, same_fact, changed}
 use Rattle.registers.specs.Meaning.{allowed}
 use Rattle.registers.specs.Records.{listed}
 use Rattle.registers.specs.declared.fact.Fact.{Fact}
-use Rattle.registers.proofs.Counts.{count-changed, count_out, count-put_le, count_none, same_at, changed-here}
+use Rattle.registers.proofs.Counts.{count-changed, count_out, count-put_le, count_none, same_at}
 
 or-cond : (s m : Bool) → (s || m) ≡ cond s true m
 or-cond true m = refl

@@ -1,10 +1,10 @@
 -- What the list register's steps come to: a record found, one more, one fewer.
-use Rattle.std.proofs.Common.{◌≡◌, ℕ, zero, suc, ◌+◌, ◌-◌, ◌<◌, ◌≤◌, min, Bool, true, false, cond, ◌||◌, ◌⊎◌, List, [], ◌∷◌, ◌++◌, length, get_or, take, set, sym, refl, ap, ◌∙◌, ⊎_elim, arith, length-set, length-take-le, get_or-take}
+use Rattle.std.proofs.Common.{◌≡◌, ℕ, zero, suc, ◌+◌, ◌-◌, ◌<◌, ◌≤◌, min, true, false, ◌||◌, List, [], ◌∷◌, ◌++◌, length, get_or, take, set, sym, refl, ap, ◌∙◌, ⊎_elim, arith, length-set, length-take-le, get_or-take}
 use lib.Seq.{take-set-lt}
 use Rattle.std.proofs.lemmas.List.{take_more, take_more_set, take-set}
 use Rattle.std.proofs.lemmas.Bool.{cases_eq, or_left, or_right, or_from}
 use Rattle.registers.specs.Facts.{count_of}
-use Rattle.registers.specs.Meaning.{Meaning, Lawful, has, size_of, limit_of, allowed, including, excluding, empty_of}
+use Rattle.registers.specs.Meaning.{Lawful, has, size_of, limit_of, allowed, including, excluding, empty_of}
 use Rattle.registers.specs.Records.{listed, list_meaning}
 use Rattle.registers.specs.declared.fact.Fact.{Fact}
 use Rattle.registers.proofs.Counts.{same_parts}

@@ -1,6 +1,6 @@
 -- What a list of calls on a register answers and leaves, by the register's meaning alone.
 -- So two registers of whatever makes, begun with equal meanings, answer alike.
-use Rattle.std.specs.Prelude.{ℕ, List, [], ◌∷◌, Some}
+use Rattle.std.specs.Prelude.{List, [], ◌∷◌, Some}
 use Rattle.registers.specs.declared.calls.Call.{Call}
 use Rattle.registers.specs.declared.calls.Call.TheVariants.{Holds, Size, Limit, Put, Take}
 use Rattle.registers.specs.declared.calls.Answer.{Answer}

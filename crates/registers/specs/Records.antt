@@ -1,6 +1,6 @@
 -- The first records of a table as a set of facts, in any order.
 -- A list register's limit is its table's length, cut to 4,096.
-use Rattle.std.specs.Prelude.{ℕ, min, Bool, false, ◌||◌, List, [], ◌∷◌, length, take}
+use Rattle.std.specs.Prelude.{ℕ, min, false, ◌||◌, List, [], ◌∷◌, length, take}
 use Rattle.registers.specs.Facts.{Facts, same_fact}
 use Rattle.registers.specs.Meaning.{Meaning}
 use Rattle.registers.specs.declared.fact.Fact.{Fact}

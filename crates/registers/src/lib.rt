@@ -1,4 +1,6 @@
 // Registers: sets of facts with a limit, in two makes behind one trait.
+#![tactic(auto)]
+
 pub mod calls;
 pub mod fact;
 pub mod fact_list;

@@ -1,9 +1,8 @@
-use Rattle.std.proofs.Common.{true, false, ◌||◌, take, sym, refl, ap, ◌∙◌, arith}
-use Rattle.registers.specs.Records.{listed}
-use Rattle.registers.proofs.Members.{same_of, listed_as, listed-push}
+use Rattle.std.proofs.Common.{sym, ap, ◌∙◌, arith}
+use Rattle.registers.proofs.Members.{listed_as}
 use Rattle.registers.proofs.ListLaws.{listed-none, listed-more-at, listed-found-at, take_past}
 use Rattle.registers.proofs.put_all.is_before.Goals as goal
-use Rattle.registers.proofs.put_all.is_before.Goals.{in-Some+else-is, in-default}
+use Rattle.registers.proofs.put_all.is_before.Goals.{in-Some+else-is, in_default}
 
 pub loop-k-init : goal.loop-k-init
 loop-k-init g c = listed-none c.args.fact
@@ -17,5 +16,5 @@ loop-k-preserved g c =
     elim c.match-get.branch [
       | in-Some+else-is w ↦
           listed-more-at (g.L.FactList.listed c.args.list.now) c.loop-k.k w.in-Some.other c.args.fact w.in-Some.ensures c.loop-k.invariant (sym w.if-is.ensures)
-      | in-default w ↦ ap (λ t. listed_as t c.args.fact) (take_past _ c.loop-k.k w.in-default.ensures) ∙ c.loop-k.invariant
+      | in_default w ↦ ap (λ t. listed_as t c.args.fact) (take_past _ c.loop-k.k w.in_default.ensures) ∙ c.loop-k.invariant
     ]

@@ -3,7 +3,7 @@ use Rattle.std.proofs.lemmas.List.{take_all}
 use Rattle.registers.specs.Meaning.{including_all}
 use Rattle.registers.proofs.ListLaws.{including-none, put-more, take_past}
 use Rattle.registers.proofs.put_all.put_each.Goals as goal
-use Rattle.registers.proofs.put_all.put_each.Goals.{in-Some, in-default}
+use Rattle.registers.proofs.put_all.put_each.Goals.{in-Some, in_default}
 
 pub loop-k-init : goal.loop-k-init
 loop-k-init g c = sym (including-none (g.R.Register.meaning c.args.register.now))
@@ -17,9 +17,9 @@ loop-k-preserved g c =
           ap g.R.Register.meaning w.register-is
           ∙ (w.put.ensures.after
           ∙ put-more m (g.R.Register.meaning c.loop-k.register) fs c.loop-k.k w.in-Some.fact c.requires.bounds c.requires.room w.in-Some.ensures c.loop-k.invariant)
-      | in-default w ↦
+      | in_default w ↦
           ap g.R.Register.meaning w.register-is
-          ∙ (c.loop-k.invariant ∙ ap (including_all m) (sym (take_past fs c.loop-k.k w.in-default.ensures)))
+          ∙ (c.loop-k.invariant ∙ ap (including_all m) (sym (take_past fs c.loop-k.k w.in_default.ensures)))
     ]
 
 pub returns : goal.returns

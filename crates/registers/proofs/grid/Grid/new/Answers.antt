@@ -5,13 +5,13 @@ use Rattle.registers.specs.Grid.{grid_facts, grid_meaning}
 use Rattle.registers.proofs.GridSteps.{grid_empty, grid_empty-count}
 use Rattle.registers.proofs.grid.Grid.new.Goals as goal
 
-pub invariant-of-result : goal.invariant-of-result
-invariant-of-result c =
-    let e = c.in-ok-rows.ensures.items-if-clones-equal (λ y h. h) in
+pub invariant_of-result : goal.invariant_of-result
+invariant_of-result c =
+    let e = c.in_ok-rows.ensures.items_if_clones_equal (λ y h. h) in
     let k = ap (λ t. count_of (grid_facts t)) e ∙ grid_empty-count 2048 in
-    (c.in-ok-rows.ensures.len, (omega arith, (omega (arith, k), tt)))
+    record { whole = c.in_ok-rows.ensures.len; cut = omega arith; few = omega (arith, k) }
 
 pub returns : goal.returns
 returns c =
-    ap (λ t. grid_meaning t c.min.result) (c.in-ok-rows.ensures.items-if-clones-equal (λ y h. h))
+    ap (λ t. grid_meaning t c.min.result) (c.in_ok-rows.ensures.items_if_clones_equal (λ y h. h))
     ∙ (grid_empty 2048 c.min.result ∙ ap empty_of c.min.ensures)

@@ -1,4 +1,3 @@
-use Rattle.std.proofs.Common.{◌∙◌}
 use Rattle.registers.proofs.GridSteps.{grid_lawful, grid_limit}
 use Rattle.registers.proofs.grid.GridRegister.limit.Goals as goal
 

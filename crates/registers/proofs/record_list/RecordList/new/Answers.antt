@@ -4,9 +4,9 @@ use Rattle.registers.proofs.Counts.{count_none}
 use Rattle.registers.proofs.RecordSteps.{list_empty}
 use Rattle.registers.proofs.record_list.RecordList.new.Goals as goal
 
-pub invariant-of-result : goal.invariant-of-result
+pub invariant_of-result : goal.invariant_of-result
 unfolding listed
-invariant-of-result c = (omega arith, (count_none, tt))
+invariant_of-result c = record { few = omega arith; apart = count_none }
 
 pub returns : goal.returns
 returns c = record { meaning = list_empty c.args.table.now; kept = refl }

@@ -1,4 +1,4 @@
-use Rattle.std.proofs.Common.{sym, ◌∙◌}
+use Rattle.std.proofs.Common.{◌∙◌}
 use Rattle.registers.proofs.RecordSteps.{list_lawful, list_limit}
 use Rattle.registers.proofs.record_list.RecordListRegister.limit.Goals as goal
 

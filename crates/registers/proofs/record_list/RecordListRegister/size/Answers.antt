@@ -1,4 +1,3 @@
-use Rattle.std.proofs.Common.{sym, ◌∙◌}
 use Rattle.registers.proofs.RecordSteps.{list_lawful, list_size}
 use Rattle.registers.proofs.record_list.RecordListRegister.size.Goals as goal
 

@@ -4,14 +4,12 @@ use Rattle.registers.proofs.Laws.{take_absent, take-excluding}
 use Rattle.registers.proofs.RecordSteps.{list_lawful, list_has, take_count, take_after}
 use Rattle.registers.proofs.record_list.RecordListRegister.take.Goals as goal
 
-pub invariant-of-self : goal.invariant-of-self
-invariant-of-self c = (
-  simp length-set (omega arith),
-  (
-    take_count _ _ c.args.fact c.args.self.now.few c.args.self.now.apart c.place-at.result _ c.if-at-len.true (c.place-at.ensures.there _ c.if-at-len.true),
-    tt,
-  ),
-)
+pub invariant_of-self : goal.invariant_of-self
+invariant_of-self c =
+    record {
+      few = simp length-set (omega arith);
+      apart = take_count _ _ c.args.fact c.args.self.now.few c.args.self.now.apart c.place-at.result _ c.if-at-len.true (c.place-at.ensures.there _ c.if-at-len.true);
+    }
 
 pub returns-then-at-len : goal.returns-then-at-len
 returns-then-at-len c =

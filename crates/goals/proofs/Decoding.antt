@@ -1,16 +1,14 @@
 -- Reading back what was written: where a file has the bytes of some parts, those parts are what it says there.
-use Rattle.std.proofs.Common.{◌≡◌, ℕ, zero, suc, ◌+◌, ◌-◌, ◌*◌, ◌/◌, ◌%◌, ◌<◌, ◌≤◌, true, ◌&&◌, eqb, leb, List, [], ◌∷◌, ◌++◌, length, get_or, Ok, Result, sym, refl, ap, ◌∙◌, ap₂, append_assoc, arith, length-append}
+use Rattle.std.proofs.Common.{◌≡◌, ℕ, suc, ◌+◌, ◌*◌, ◌/◌, ◌%◌, ◌<◌, ◌≤◌, true, List, [], ◌∷◌, ◌++◌, length, get_or, sym, refl, ap, ◌∙◌, ap₂, arith, length-append}
 use Rattle.std.specs.List.{flat_map}
 use Rattle.std.proofs.lemmas.List.{get_or_append_left, get_or-append-add}
 use Rattle.std.proofs.lemmas.Bool.{and_from, eq-eqb, le-leb}
 use Rattle.registers.specs.declared.fact.Fact.{Fact}
-use Rattle.goals.specs.declared.frame.Frame.{Frame}
-use Rattle.goals.specs.declared.file_fault.FrameFault.{FrameFault}
 use Rattle.goals.specs.Bytes.{byte_at, word_at}
-use Rattle.goals.specs.Frame.{marked, predicates_end, operations_end, frame_of, framed}
-use Rattle.goals.specs.Filling.{fact_at, facts_from, facts_of}
+use Rattle.goals.specs.Frame.{marked, predicates_end, operations_end, frame_of}
+use Rattle.goals.specs.Filling.{fact_at, facts_from}
 use Rattle.goals.specs.Sections.{PredicateText, EntryText, OperationText, bytes_at, predicate_at, predicates_from, entry_at, entries_at, operation_at, operations_from}
-use Rattle.goals.specs.Written.{StepText, step_at, steps_from, Edition, two, predicate_bytes, entry_bytes, operation_bytes, fact_bytes, step_bytes, head_bytes, edition_bytes, edition_of, EditionsAreFramed}
+use Rattle.goals.specs.Written.{StepText, step_at, steps_from, Edition, predicate_bytes, entry_bytes, operation_bytes, fact_bytes, step_bytes, head_bytes, edition_bytes, edition_of, EditionsAreFramed}
 use Rattle.goals.proofs.FrameSteps.{framed-whole}
 
 -- the file has these bytes from a place on

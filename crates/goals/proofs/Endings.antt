@@ -1,23 +1,22 @@
 -- How the ends of an interval are read, over plain values.
-use Rattle.std.proofs.Common.{◌≡◌, ℕ, zero, suc, ◌+◌, ◌<◌, ◌≤◌, min, Bool, true, false, cond, ◌&&◌, eqb, ltb, leb, ◌⊎◌, List, [], ◌∷◌, length, Some, None, Option, sym, refl, ap, ◌∙◌, subst, ap₂, inl, inr, ⊎_elim, arith, Bor, ne_eqb, le-leb}
+use Rattle.std.proofs.Common.{◌≡◌, ℕ, ◌<◌, ◌≤◌, Bool, eqb, leb, ◌⊎◌, List, Option, refl, ap, ◌∙◌, ⊎_elim, arith, Bor, ne_eqb, le-leb}
 use borrow.Author.Tests.{lt-leb}
-use Rattle.std.proofs.lemmas.Bool.{cond-true, cond-false, and_from, and_left, and_right}
+use Rattle.std.proofs.lemmas.Bool.{cond-false, and_from, and_left, and_right}
 use Rattle.goals.specs.declared.time.Span.{Span}
-use Rattle.goals.specs.declared.goal.Ends.{Ends}
 use Rattle.goals.specs.declared.goal_fault.GoalFault.{GoalFault}
 use Rattle.goals.specs.declared.token.Token.{Token}
 use Rattle.goals.specs.declared.token.Token.TheVariants as token
 use Rattle.goals.specs.declared.words.Words.{Words}
 use Rattle.goals.specs.declared.progress.Progress.{Progress}
-use Rattle.goals.specs.Tokens.{Tok, word, variable, digits, mark, bad, Source, end, next, lexed, value}
+use Rattle.goals.specs.Tokens.{word, variable, digits, mark, bad, Source, end, next, value}
 use Rattle.goals.specs.Vocabulary.{Vocabulary}
 use Rattle.goals.specs.Syntax as syntax
 use Rattle.goals.specs.Seen.{seen, placed}
-use Rattle.goals.specs.Tree.{span, ends_of}
+use Rattle.goals.specs.Tree.{span}
 use Rattle.goals.specs.Meanings.{capped}
-use Rattle.goals.specs.Reading.{Stage, wants, expects, opens, lower, upper, Opener, resume, Moved, may, followed, move, Outcome, fault, walk, run}
+use Rattle.goals.specs.Reading.{wants, expects, opens, lower, upper, Opener, resume, followed, move, fault, walk, run}
 use Rattle.goals.specs.GoalFaults.{told}
-use Rattle.goals.specs.Promises.{text_of, vocabulary, tokens, items, from, Passed, Still, Here, SignRead, head_sign, head_place, LowerRead, UpperRead, EndsRead}
+use Rattle.goals.specs.Promises.{tokens, from, Passed, Here, SignRead, head_sign, head_place, LowerRead, UpperRead, EndsRead}
 use Rattle.goals.proofs.Moves.{step, fail, still-then, still-passed}
 use Rattle.goals.proofs.Terms.{expected, unexpected}
 

@@ -1,11 +1,11 @@
 -- What each way through the reading of an entry, a list of entries and an operation says, over plain values.
-use Rattle.std.proofs.Common.{◌≡◌, ℕ, zero, suc, ◌+◌, ◌-◌, ◌*◌, ◌<◌, ◌≤◌, Bool, true, false, cond, ◌&&◌, eqb, ltb, leb, ◌⊎◌, List, [], ◌∷◌, ◌++◌, map, length, get_or, take, drop, set, sym, refl, ap, ◌∙◌, ⊎_elim, arith}
-use Rattle.std.proofs.lemmas.List.{get_or-map, length-map, map_more, take_more_set, map_push}
-use Rattle.std.proofs.lemmas.Bool.{and_left, and_right, and_from, le-ltb, lt-ltb, lt-leb, le-leb, cases_Bool, and_parts, leb-true, cond-true, cond-false}
+use Rattle.std.proofs.Common.{◌≡◌, ℕ, zero, suc, ◌+◌, ◌-◌, ◌*◌, ◌<◌, ◌≤◌, Bool, true, false, cond, ◌&&◌, ltb, leb, List, [], ◌∷◌, ◌++◌, map, length, get_or, take, set, sym, refl, ap, ◌∙◌, arith}
+use Rattle.std.proofs.lemmas.List.{get_or-map, length-map, take_more_set, map_push}
+use Rattle.std.proofs.lemmas.Bool.{and_left, and_right, and_from, le-ltb, lt-ltb, lt-leb, le-leb, and_parts, leb-true}
 use Rattle.goals.specs.declared.predicate.Predicate.{Predicate}
 use Rattle.goals.specs.declared.operation.Entry.{Entry}
 use Rattle.goals.specs.declared.operation.EntryTerm.{EntryTerm}
-use Rattle.goals.specs.Sections.{PredicateText, EntryText, OperationText, entry_at, entries_at, operation_at}
+use Rattle.goals.specs.Sections.{PredicateText, EntryText, OperationText, entry_at, entries_at}
 use Rattle.goals.specs.CatalogueRules.{places_in, sound_term, predicate_number, sound_entry, sound_each, sound_entries, sound_operation}
 use Rattle.goals.specs.Entries.{predicate_text, term_byte, entry_text}
 

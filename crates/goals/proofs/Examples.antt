@@ -1,13 +1,11 @@
 -- Some texts and how they read.
-use Rattle.std.proofs.Common.{◌≡◌, ℕ, List, [], ◌∷◌, length, take, Some, None, codes, refl}
+use Rattle.std.proofs.Common.{◌≡◌, ℕ, [], ◌∷◌, None, codes, refl}
 use Rattle.goals.specs.declared.goal.Variable.TheVariants.{Outer, Inner}
 use Rattle.goals.specs.declared.goal.Term.TheVariants.{Id, Bound}
-use Rattle.goals.specs.declared.predicate.Predicate.{Predicate}
-use Rattle.goals.specs.Tokens.{lex, lexed}
+use Rattle.goals.specs.Tokens.{lex}
 use Rattle.goals.specs.Vocabulary.{Vocabulary, vocabulary_of, find_from}
 use Rattle.goals.specs.Scopes.{outermost}
-use Rattle.goals.specs.Syntax as syntax
-use Rattle.goals.specs.Tree.{Tree, always, test, equal, not, next, and, or, until, for_all, exists, formula-tree, item-tree, clause-tree, span}
+use Rattle.goals.specs.Tree.{Tree, always, test, not, or, until, for_all, formula-tree, span}
 use Rattle.goals.specs.Reading.{Outcome, read, fault, reads, walk, move}
 
 abbrev words : Vocabulary

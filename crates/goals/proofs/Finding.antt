@@ -1,11 +1,10 @@
 -- Names and numbers: a search for a name goes on by one, and a number grows by one digit.
-use Rattle.std.proofs.Common.{◌≡◌, ℕ, zero, suc, ◌+◌, ◌-◌, ◌*◌, ◌<◌, ◌≤◌, min, Bool, true, false, cond, List, [], ◌∷◌, length, get_or, take, drop, Decides, sym, refl, ap, ◌∙◌, subst, add-one, arith, length-take, drop-cons, get_or-take}
+use Rattle.std.proofs.Common.{◌≡◌, ℕ, zero, suc, ◌+◌, ◌-◌, ◌*◌, ◌<◌, ◌≤◌, min, Bool, true, false, List, [], ◌∷◌, length, get_or, take, drop, Decides, sym, refl, ap, ◌∙◌, add-one, arith, length-take, drop-cons, get_or-take}
 use Rattle.std.proofs.lemmas.Bool.{cond-true, cond-false, both_ways}
 use Rattle.std.specs.Str.{bytes_eq}
 use Rattle.std.proofs.lemmas.Slice.Eq.{bytes_eq-Decides}
 use Rattle.goals.specs.declared.predicate.Predicate.{Predicate}
-use Rattle.goals.specs.Tokens.{value_from}
-use Rattle.goals.specs.Vocabulary.{Found, missing, found, places_of, name_of, find_from}
+use Rattle.goals.specs.Vocabulary.{missing, found, places_of, name_of, find_from}
 use Rattle.goals.specs.Meanings.{capped}
 
 pub same_by : (xs ys : List ℕ) (r : Bool) → Decides r (xs ≡ ys) → r ≡ bytes_eq xs ys

@@ -1,5 +1,5 @@
 -- What every goal keeps, for the crates above: its nodes stand behind their parts, and the ends of each until are in order.
-use Rattle.std.proofs.Common.{ℕ, ◌<◌, ◌≤◌, length, get_or, vec_items}
+use Rattle.std.proofs.Common.{◌<◌, ◌≤◌, length, get_or, vec_items}
 use Rattle.goals.specs.declared.goal.Goal.{Goal}
 use Rattle.goals.specs.declared.goal.Node.TheVariants as node
 use Rattle.goals.specs.NodeTable.{Rising, OrderedTable}

@@ -1,5 +1,5 @@
 -- What a reader's loop keeps: whatever stood at the start of the table, what the loop began with has grown to what it has now.
-use Rattle.std.proofs.Common.{◌≡◌, ℕ, ◌≤◌, length, Option, refl}
+use Rattle.std.proofs.Common.{◌≡◌, ℕ, ◌≤◌, length, Option}
 use Rattle.goals.specs.declared.scope.Scope.{Scope}
 use Rattle.goals.specs.declared.words.Words.{Words}
 use Rattle.goals.specs.declared.progress.Progress.{Progress}

@@ -1,8 +1,8 @@
 -- From a framed file to its job: where the goal text lies, and that the catalogue's words are the file's.
-use Rattle.std.proofs.Common.{◌≡◌, ℕ, zero, suc, ◌+◌, ◌-◌, ◌*◌, ◌<◌, ◌≤◌, true, false, cond, ◌&&◌, leb, List, [], ◌∷◌, ◌++◌, map, length, get_or, take, drop, Ok, vec_items, vec_len, sym, refl, ap, ◌∙◌, subst, ap₂, arith}
+use Rattle.std.proofs.Common.{◌≡◌, ℕ, zero, suc, ◌+◌, ◌-◌, ◌*◌, ◌<◌, ◌≤◌, true, cond, ◌&&◌, leb, List, [], ◌∷◌, map, length, get_or, take, drop, Ok, vec_items, vec_len, sym, refl, ap, ◌∙◌, subst, ap₂, arith}
 use mathlib.Core.Path.{fun_ext}
 use Rattle.std.specs.Str.{bytes_eq}
-use Rattle.std.proofs.lemmas.List.{take_all, take_more, get_or-drop, drop-drop, length-map, length-drop}
+use Rattle.std.proofs.lemmas.List.{take_all, length-map}
 use Rattle.std.proofs.lemmas.Bool.{and_from, and_parts, leb-true}
 use Rattle.goals.specs.declared.frame.Frame.{Frame}
 use Rattle.goals.specs.declared.predicate.Predicate.{Predicate}
@@ -11,10 +11,10 @@ use Rattle.goals.specs.Bytes.{byte_at}
 use Rattle.goals.specs.Frame.{framed, frame_of, operations_end}
 use Rattle.goals.specs.Sections.{bytes_at}
 use Rattle.goals.specs.CatalogueRules.{sound_counts, sound_predicates}
-use Rattle.goals.specs.CatalogueMeaning.{predicates_of, operations_of, shape_sound, sound_operations}
+use Rattle.goals.specs.CatalogueMeaning.{shape_sound, sound_operations}
 use Rattle.goals.specs.CatalogueReading.{Spelled}
 use Rattle.goals.specs.Entries.{predicate_text, operation_text}
-use Rattle.goals.specs.Vocabulary.{Vocabulary, find_from, vocabulary_of, name_of, found, places_of}
+use Rattle.goals.specs.Vocabulary.{find_from, vocabulary_of, name_of, found, places_of}
 use Rattle.goals.specs.JobText.{goal_text, find_text, words_from, words_of, operations_sound}
 use Rattle.goals.proofs.FrameSteps.{accepted, sections}
 use Rattle.goals.proofs.PredicateSteps.{predicates-count}

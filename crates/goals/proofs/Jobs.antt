@@ -1,5 +1,5 @@
 -- What holds of every job, from its catalogue and its goal.
-use Rattle.std.proofs.Common.{true, ◌&&◌, leb}
+use Rattle.std.proofs.Common.{leb}
 use Rattle.std.proofs.lemmas.Bool.{and_parts, leb-true}
 use Rattle.goals.specs.declared.job.Job.{Job}
 use Rattle.goals.specs.JobView.{ids_of, nodes_of, root_of, Sound}

@@ -1,10 +1,9 @@
 -- Along a derivation the reading goes on exactly as long as the conditions hold and the nodes are few; else it stops with 5, 6 or 7.
 -- By the grammar alone it always goes on.
-use Rattle.std.proofs.Common.{◌≡◌, ℕ, zero, suc, ◌+◌, ◌<◌, ◌≤◌, Bool, true, false, cond, not, ◌&&◌, ltb, leb, ◌⊎◌, List, [], ◌∷◌, Some, None, Option, sym, refl, ap, ◌∙◌, subst, ap₂, inl, inr, ⊎_elim, add-zero, add_assoc, zero-add, arith, le-leb}
-use mathlib.Core.Bool.{and_true, and_assoc}
+use Rattle.std.proofs.Common.{◌≡◌, ℕ, ◌+◌, ◌<◌, ◌≤◌, Bool, true, false, not, ◌&&◌, ltb, leb, ◌⊎◌, List, Some, None, Option, sym, refl, ap, ◌∙◌, subst, ap₂, inl, inr, ⊎_elim, add-zero, add_assoc, arith, le-leb}
+use mathlib.Core.Bool.{and-true, and_assoc}
 use borrow.Author.Tests.{lt-leb}
 use Rattle.std.proofs.lemmas.Bool.{cases_lt, and_parts, and_from, both_ways, cond-true, cond-false}
-use Rattle.goals.specs.declared.scope.Scope.{Scope}
 use Rattle.goals.specs.Tokens as token
 use Rattle.goals.specs.Tokens.{Tok, word, digits, mark, Source, end, next}
 use Rattle.goals.specs.Vocabulary.{Vocabulary, Places, none, one, two, is_known, places}
@@ -12,7 +11,7 @@ use Rattle.goals.specs.Syntax as syntax
 use Rattle.goals.specs.Grammar.{operand_token, unary_mark, modal_mark, quantifier_mark, IsInterval, is_unwritten, is_from_to, is_from_on, IsTest, is_bare, is_of_one, is_of_two, IsSimple, is_truth, is_test, is_equal, IsPrefix, is_unary, is_timed, is_quantified, IsJoint, is_until, is_implies, IsFormula, is-clause, is-either, IsClause, is-item, is-both, IsItem, is-simple, is-prefixed, is-group, is-pair}
 use Rattle.goals.specs.Conditions.{known_operand, known_test, known_simple, known_prefix, known-formula, known-clause, known-item, ranged_operand, ranged_test, ranged_interval, ranged_simple, ranged_prefix, ranged_joint, ranged-formula, ranged-clause, ranged-item, shallow_prefix, shallow-formula, shallow-clause, shallow-item, prefix_nodes, joint_nodes, formula_nodes, clause_nodes, item_nodes}
 use Rattle.goals.specs.Scopes.{in_use, has_room}
-use Rattle.goals.specs.Reading.{Around, top, open_at, right_of, Place, at, under, scope_at, scope_around, Role, alone, bound, role_scope, role_holds, Asker, right_side, argument, asker_scope, only, first, second, Opener, of_modal, of_until, resume, Stage, wants, after, expects, equals, asks, closes, binds, bounds, opens, lower, upper, joined_or, complete, tested, given, Moved, may, named, move, Outcome, read, fault, followed, walk, start}
+use Rattle.goals.specs.Reading.{Around, open_at, right_of, Place, at, under, scope_at, scope_around, Role, alone, bound, role_scope, role_holds, Asker, right_side, argument, asker_scope, only, first, second, Opener, of_modal, of_until, resume, Stage, wants, after, expects, equals, asks, closes, binds, bounds, opens, lower, upper, joined_or, complete, tested, given, may, named, move, Outcome, fault, followed, walk}
 use Rattle.goals.specs.Promises.{head_sign, test_stage, role_nodes}
 use Rattle.goals.proofs.Endings.{no_ends}
 
@@ -105,7 +104,7 @@ module _ (V : Vocabulary) (strict : Bool) where
   unfolding move
   test-reads (is_bare {b} {r = u} {p} e) r n = five (test_stage r) (word b) p u _ p (role_nodes r) _ n (name-move r b p none e)
   test-reads (is_of_one {b} {x} {r = u} {p1} {p2} {p3} {p4} e) r n =
-      reshape (sym (and_assoc (is_known (V.lookup b)) (known_operand V (role_scope r) x) (role_holds r (syntax.of_one b x)))) (and_true (ranged_operand V x)) refl (add-zero (role_nodes r))
+      reshape (sym (and_assoc (is_known (V.lookup b)) (known_operand V (role_scope r) x) (role_holds r (syntax.of_one b x)))) (and-true (ranged_operand V x)) refl (add-zero (role_nodes r))
       (follow (five (test_stage r) (word b) p1 _ _ p1 (role_nodes r) _ n (name-move r b p1 one e))
       (follow (free (expects 40 _) (mark 40) p2 _ 0 (asks (argument r p1 (only b))) _ refl)
       (follow (operand-reads x p3 _ (argument r p1 (only b)) _)
@@ -113,7 +112,7 @@ module _ (V : Vocabulary) (strict : Bool) where
   test-reads (is_of_two {b} {x} {y} {r = u} {p1} {p2} {p3} {p4} {p5} {p6} e) r n =
       reshape
       (ap (λ i. is_known (V.lookup b) && i) (sym (and_assoc (known_operand V (role_scope r) x) (known_operand V (role_scope r) y) (role_holds r (syntax.of_two b x y)))) ∙ sym (and_assoc (is_known (V.lookup b)) (known_operand V (role_scope r) x && known_operand V (role_scope r) y) (role_holds r (syntax.of_two b x y))))
-      (ap (λ i. ranged_operand V x && i) (and_true (ranged_operand V y))) refl (add-zero (role_nodes r))
+      (ap (λ i. ranged_operand V x && i) (and-true (ranged_operand V y))) refl (add-zero (role_nodes r))
       (follow (five (test_stage r) (word b) p1 _ _ p1 (role_nodes r) _ n (name-move r b p1 two e))
       (follow (free (expects 40 _) (mark 40) p2 _ 0 (asks (argument r p1 (first b))) _ refl)
       (follow (operand-reads x p3 _ (argument r p1 (first b)) _)
@@ -124,7 +123,7 @@ module _ (V : Vocabulary) (strict : Bool) where
   simple-reads : {x : syntax.Simple} {s u : Source} → IsSimple V x s u → (k : Place) (n : ℕ) → Reads (known_simple V (scope_at k) x) (ranged_simple V x) true n 1 (walk V strict n (wants k) s) (complete (syntax.simple x) k) u
   unfolding move
   simple-reads (is_truth {r = u} {p}) k n = free (wants k) (mark 84) p u 1 _ n refl
-  simple-reads (is_test {t} d) k n = reshape (and_true (known_test V (scope_at k) t)) refl refl refl (test-reads d (alone k) n)
+  simple-reads (is_test {t} d) k n = reshape (and-true (known_test V (scope_at k) t)) refl refl refl (test-reads d (alone k) n)
   simple-reads (is_equal {x} {y} {r = u} {p1} {p2} {p3}) k n =
       follow (left_reads x p1 _ k n) (follow (free (equals x k) (mark 61) p2 _ 1 (asks (right_side x k)) _ refl) (operand-reads y p3 u (right_side x k) _))
 
@@ -134,16 +133,16 @@ module _ (V : Vocabulary) (strict : Bool) where
   -- intervals
   interval-reads : {e : syntax.Interval} {s u : Source} → IsInterval e s u → (head_sign u ≡ 91 → ⊥) → (l : Opener) {k r h : Bool} {n m : ℕ} {o : Outcome} → Reads k r h n m o (opens l) s → Reads k (r && ranged_interval V e) h n m o (wants (resume l e)) u
   unfolding move
-  interval-reads (is_unwritten {r = u}) d l {k} {r} {h} {n} {m} x = reshape refl (sym (and_true r)) refl refl (onto (wants (resume l syntax.unwritten)) u x (no_ends V strict (n + m) l u d))
+  interval-reads (is_unwritten {r = u}) d l {k} {r} {h} {n} {m} x = reshape refl (sym (and-true r)) refl refl (onto (wants (resume l syntax.unwritten)) u x (no_ends V strict (n + m) l u d))
   interval-reads (is_from_to {lo} {hi} {r = u} {p1} {p2} {p3} {p4} {p5}) d l {k} {r} {h} {n} {m} x =
-      reshape (and_true k) (ap (λ i. r && (leb (token.value lo) 10000 && i)) (and_true (leb (token.value hi) 10000 && leb (token.value lo) (token.value hi)))) (and_true h) (add-zero m)
+      reshape (and-true k) (ap (λ i. r && (leb (token.value lo) 10000 && i)) (and-true (leb (token.value hi) 10000 && leb (token.value lo) (token.value hi)))) (and-true h) (add-zero m)
       (follow x
       (follow (free (opens l) (mark 91) p1 _ 0 (lower l) _ refl)
       (follow (six (lower l) (digits lo) p2 _ _ p2 0 (expects 44 (upper l lo)) _ refl)
       (follow (free (expects 44 (upper l lo)) (mark 44) p3 _ 0 (upper l lo) _ refl)
       (follow (six (upper l lo) (digits hi) p4 _ _ p4 0 (expects 93 (wants (resume l (syntax.from_to lo hi)))) _ refl) (free (expects 93 (wants (resume l (syntax.from_to lo hi)))) (mark 93) p5 u 0 (wants (resume l (syntax.from_to lo hi))) _ refl))))))
   interval-reads (is_from_on {lo} {r = u} {p1} {p2} {p3} {p4} {p5}) d l {k} {r} {h} {n} {m} x =
-      reshape (and_true k) (ap (λ i. r && i) (and_true (leb (token.value lo) 10000))) (and_true h) (add-zero m)
+      reshape (and-true k) (ap (λ i. r && i) (and-true (leb (token.value lo) 10000))) (and-true h) (add-zero m)
       (follow x
       (follow (free (opens l) (mark 91) p1 _ 0 (lower l) _ refl)
       (follow (six (lower l) (digits lo) p2 _ _ p2 0 (expects 44 (upper l lo)) _ refl)
@@ -171,7 +170,7 @@ module _ (V : Vocabulary) (strict : Bool) where
   prefix-reads (is_unary {u = y} {r} {p}) d k n = free (wants k) (mark (unary_mark y)) p r 1 _ n (unary_row y k p)
   prefix-reads (is_timed {m} {e} {s} {r} {p} i) d k n = interval-reads i d (of_modal m k) (free (wants k) (mark (modal_mark m)) p s (prefix_nodes (syntax.timed m e)) (opens (of_modal m k)) n (modal_row m e k p))
   prefix-reads (is_quantified {q} {v} {t} {s} {r} {p1} {p2} {p3} i) d k n =
-      reshape refl refl (and_true (has_room (scope_at k).letters)) refl
+      reshape refl refl (and-true (has_room (scope_at k).letters)) refl
       (follow (seven (wants k) (mark (quantifier_mark q)) p1 _ (has_room (scope_at k).letters) p1 1 (binds q k) n (quantifier_row q k p1))
       (follow (five (binds q k) (token.variable v) p2 _ (not (in_use (scope_at k).letters v)) p2 0 (expects 58 (bounds q v k)) _ refl)
       (follow (free (expects 58 (bounds q v k)) (mark 58) p3 s 0 (bounds q v k) _ refl) (test-reads i (bound q v k) _))))
@@ -232,7 +231,7 @@ module _ (V : Vocabulary) (strict : Bool) where
     item-reads (is-group {f} {s} {r} {p} {q} d) k n =
         let m = formula-reads d (open_at k) (n + 0) in
         to_stage (ap (λ y. complete (syntax.group y) k) m.whole)
-        (reshape (and_true (known-formula V (scope_around (open_at k)) f)) (and_true (ranged-formula V f)) (ap (λ y. ltb (scope_at k).depth 16 && y) (and_true (shallow-formula (scope_around (open_at k)) f))) (omega arith)
+        (reshape (and-true (known-formula V (scope_around (open_at k)) f)) (and-true (ranged-formula V f)) (ap (λ y. ltb (scope_at k).depth 16 && y) (and-true (shallow-formula (scope_around (open_at k)) f))) (omega arith)
         (follow (seven (wants k) (mark 40) p s (ltb (scope_at k).depth 16) p 0 (wants (at None None (open_at k))) n refl)
         (follow m.reads (free (after m.last m.before (open_at k)) (mark 41) q r 0 (complete (syntax.group (joined_or m.before m.last)) k) _ refl))))
     item-reads (is-pair {a} {b} {j} {s} {u} {v} {r} {p} {q} d y e) k n =
@@ -240,9 +239,9 @@ module _ (V : Vocabulary) (strict : Bool) where
         let w = formula-reads e (right_of (joined_or m.before m.last) j k) (n + 0 + formula_nodes a + joint_nodes j) in
         to_stage (ap₂ (λ x z. complete (syntax.pair x j z) k) m.whole w.whole)
         (reshape
-        (ap (λ x. known-formula V (scope_around (open_at k)) a && x) (and_true (known-formula V (scope_around (open_at k)) b)))
-        (ap (λ x. ranged-formula V a && (ranged_joint V j && x)) (and_true (ranged-formula V b)))
-        (ap (λ x. ltb (scope_at k).depth 16 && (shallow-formula (scope_around (open_at k)) a && x)) (and_true (shallow-formula (scope_around (open_at k)) b))) (omega arith)
+        (ap (λ x. known-formula V (scope_around (open_at k)) a && x) (and-true (known-formula V (scope_around (open_at k)) b)))
+        (ap (λ x. ranged-formula V a && (ranged_joint V j && x)) (and-true (ranged-formula V b)))
+        (ap (λ x. ltb (scope_at k).depth 16 && (shallow-formula (scope_around (open_at k)) a && x)) (and-true (shallow-formula (scope_around (open_at k)) b))) (omega arith)
         (follow (seven (wants k) (mark 40) p s (ltb (scope_at k).depth 16) p 0 (wants (at None None (open_at k))) n refl)
         (follow m.reads
         (follow (joint-reads y (formula_head e) m.last m.before k _)

@@ -1,7 +1,7 @@
 -- One token of a text at a time.
 use Rattle.std.proofs.Common.{◌≡◌, ℕ, zero, suc, ◌+◌, ◌-◌, ◌<◌, ◌≤◌, Bool, true, false, cond, eqb, List, [], ◌∷◌, length, get_or, take, drop, sym, refl, ap, ◌∙◌, subst, ap₂, add-zero, add-one, arith, drop-cons, drop-drop, eq-eqb, ne_eqb}
 use Rattle.std.proofs.lemmas.Bool.{cond-true, cond-false}
-use Rattle.goals.specs.Tokens.{Tok, Source, end, next, is_letter, is_digit, is_blank, run_of, more, token_of, name_token, number_token, variable_token, sign_token, lex, lexed}
+use Rattle.goals.specs.Tokens.{end, next, is_letter, is_digit, is_blank, run_of, more, token_of, name_token, number_token, variable_token, sign_token, lex, lexed}
 
 past : (l : List ℕ) (i : ℕ) → length l ≤ i → drop i l ≡ []
 past [] zero h = refl

@@ -1,23 +1,21 @@
 -- Trees are laid into the table, part by part.
-use Rattle.std.proofs.Common.{◌≡◌, ℕ, suc, ◌+◌, ◌-◌, ◌<◌, ◌≤◌, List, [], ◌∷◌, ◌++◌, length, sym, refl, ap, ◌∙◌, subst, ap₂, append_assoc, append-nil, le_refl, add-zero, arith, length-append}
+use Rattle.std.proofs.Common.{◌≡◌, ℕ, ◌+◌, ◌-◌, ◌<◌, ◌≤◌, List, [], ◌∷◌, ◌++◌, length, sym, refl, ap, ◌∙◌, subst, ap₂, append_assoc, append-nil, le_refl, add-zero, arith, length-append}
 use Rattle.goals.specs.declared.goal.Ends.{Ends}
 use Rattle.goals.specs.declared.goal.Node.{Node}
 use Rattle.goals.specs.declared.goal.Node.TheVariants as node
 use Rattle.goals.specs.declared.scope.Scope.{Scope}
 use Rattle.goals.specs.declared.words.Words.{Words}
 use Rattle.goals.specs.declared.progress.Progress.{Progress}
-use Rattle.goals.specs.declared.progress.Opening.{Opening}
 use Rattle.goals.specs.declared.progress.Prefix.{Prefix}
 use Rattle.goals.specs.declared.progress.Prefix.TheVariants as prefix
 use Rattle.goals.specs.declared.progress.Joint.{Joint}
-use Rattle.goals.specs.declared.progress.Joint.TheVariants as joint
 use Rattle.goals.specs.Vocabulary.{Vocabulary}
 use Rattle.goals.specs.Syntax as syntax
 use Rattle.goals.specs.Conditions.{prefix_nodes, joint_nodes}
 use Rattle.goals.specs.Tree.{Tree, always, test, equal, not, next, and, or, until, for_all, exists, atom_of, ends_of, prefix_tree, joint_tree}
 use Rattle.goals.specs.Scopes.{newest, bind}
 use Rattle.goals.specs.Layout.{laid, below, size}
-use Rattle.goals.specs.Promises.{text_of, vocabulary, items, Added, Closed, closed, PrefixRead, meant, opened, JointRead, joint_meant, joint_opened, joint_node, Made}
+use Rattle.goals.specs.Promises.{text_of, vocabulary, items, Added, Closed, closed, meant, opened, JointRead, joint_meant, joint_opened, joint_node, Made}
 
 pub length-laid : (t : Tree) (b : ℕ) → length (laid t b) ≡ size t
 length-laid always b = refl

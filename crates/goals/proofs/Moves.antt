@@ -1,5 +1,5 @@
 -- One token of a reading at a time.
-use Rattle.std.proofs.Common.{◌≡◌, ℕ, zero, suc, ◌+◌, ◌<◌, ◌≤◌, Bool, true, false, cond, eqb, leb, List, [], ◌∷◌, length, sym, refl, ap, ◌∙◌, subst, ap₂, arith, ne_eqb, le-leb}
+use Rattle.std.proofs.Common.{◌≡◌, ℕ, ◌+◌, ◌<◌, ◌≤◌, Bool, true, false, eqb, leb, [], ◌∷◌, length, sym, refl, ap, ◌∙◌, ap₂, arith, ne_eqb, le-leb}
 use borrow.Author.Tests.{lt-leb}
 use Rattle.std.proofs.lemmas.Bool.{cond-true, cond-false}
 use Rattle.goals.specs.declared.words.Words.{Words}
@@ -8,7 +8,7 @@ use Rattle.goals.specs.Tokens.{Tok, word, variable, digits, mark, bad, Source, e
 use Rattle.goals.specs.declared.token.Token.{Token}
 use Rattle.goals.specs.Seen.{seen, used}
 use Rattle.goals.specs.Vocabulary.{Vocabulary}
-use Rattle.goals.specs.Reading.{Stage, expects, Moved, cannot, may, signed, among, move, Outcome, fault, ended, followed, walk, run}
+use Rattle.goals.specs.Reading.{Stage, Moved, cannot, may, signed, move, fault, ended, followed, walk, run}
 use Rattle.goals.specs.Promises.{text_of, vocabulary, tokens, from, Passed, Still, Here, SignRead, head_sign, head_place}
 
 module _ (V : Vocabulary) where

@@ -1,7 +1,7 @@
 -- What each way through the reading of all operations says, over plain values.
-use Rattle.std.proofs.Common.{◌≡◌, ℕ, zero, suc, ◌+◌, ◌-◌, ◌*◌, ◌<◌, ◌≤◌, Bool, true, false, ◌&&◌, List, [], ◌∷◌, ◌++◌, map, length, Some, None, Option, sym, refl, ap, ◌∙◌, subst, arith, MatchOption}
+use Rattle.std.proofs.Common.{◌≡◌, ℕ, zero, suc, ◌+◌, ◌-◌, ◌*◌, ◌<◌, ◌≤◌, true, false, List, [], ◌∷◌, ◌++◌, map, length, Some, sym, refl, ap, ◌∙◌, subst, arith, MatchOption}
 use Rattle.std.specs.List.{slice_get}
-use Rattle.std.proofs.lemmas.List.{append_assoc, append-nil, map_push, length-map, nil_from_length}
+use Rattle.std.proofs.lemmas.List.{append_assoc, map_push, length-map}
 use Rattle.std.proofs.lemmas.Bool.{and_from, and_parts}
 use Rattle.goals.specs.declared.operation.Operation.{Operation}
 use Rattle.goals.specs.Bytes.{byte_at}

@@ -1,7 +1,7 @@
 -- What each way through the reading of a predicate and of all predicates says, over plain values.
-use Rattle.std.proofs.Common.{◌≡◌, ℕ, zero, suc, ◌+◌, ◌-◌, ◌*◌, ◌<◌, ◌≤◌, min, Bool, true, false, cond, not, ◌&&◌, ◌||◌, eqb, ltb, leb, List, [], ◌∷◌, ◌++◌, map, length, get_or, take, drop, set, is_some, Some, None, Option, sym, refl, ap, ◌∙◌, arith}
+use Rattle.std.proofs.Common.{◌≡◌, ℕ, zero, suc, ◌+◌, ◌-◌, ◌<◌, ◌≤◌, Bool, true, false, cond, not, ◌&&◌, ◌||◌, leb, List, [], ◌∷◌, ◌++◌, map, length, take, set, is_some, Some, None, Option, sym, refl, ap, ◌∙◌, arith}
 use Rattle.std.proofs.lemmas.List.{take_more_set, append_assoc, map_push}
-use Rattle.std.proofs.lemmas.Bool.{and_left, and_right, and_from, and_parts, leb-true, not_from_true}
+use Rattle.std.proofs.lemmas.Bool.{and_left, and_right, not_from_true}
 use Rattle.std.specs.Str.{bytes_eq}
 use Rattle.goals.specs.declared.predicate.Predicate.{Predicate}
 use Rattle.goals.specs.declared.predicate.Sense.{Sense}
@@ -10,7 +10,7 @@ use Rattle.goals.specs.Meanings.{meaning}
 use Rattle.goals.specs.Bytes.{byte_at}
 use Rattle.goals.specs.Tokens.{is_letter}
 use Rattle.goals.specs.Sections.{PredicateText, bytes_at, predicate_at, predicates_from}
-use Rattle.goals.specs.CatalogueRules.{all_letters, sound_name, sound_predicate, taken, sound_predicates}
+use Rattle.goals.specs.CatalogueRules.{all_letters, sound_predicate, taken, sound_predicates}
 use Rattle.goals.specs.Entries.{predicate_text}
 
 -- bytes

@@ -1,6 +1,6 @@
 -- How what stands before an item is read, over plain values.
-use Rattle.std.proofs.Common.{◌≡◌, ℕ, zero, suc, ◌+◌, ◌<◌, ◌≤◌, Bool, true, false, cond, not, ◌&&◌, ◌||◌, eqb, ltb, leb, List, [], ◌∷◌, ◌++◌, length, Some, None, Option, sym, refl, ap, ◌∙◌, subst, ap₂, append-nil, arith, Bor, eq-eqb, ne_eqb, eqb-true}
-use mathlib.Core.Bool.{or_false}
+use Rattle.std.proofs.Common.{◌≡◌, ℕ, ◌+◌, ◌<◌, ◌≤◌, Bool, true, false, cond, not, ◌||◌, eqb, List, [], ◌∷◌, ◌++◌, length, Some, None, Option, sym, refl, ap, ◌∙◌, ap₂, append-nil, arith, Bor, eqb-true}
+use mathlib.Core.Bool.{or-false}
 use borrow.Author.Tests.{eqb-false}
 use Rattle.std.proofs.lemmas.Bool.{cond-true, cond-false, both_ways}
 use Rattle.goals.specs.declared.goal.Variable.{Variable}
@@ -15,25 +15,24 @@ use Rattle.goals.specs.declared.scope.Scope.{Scope}
 use Rattle.goals.specs.declared.token.Token.{Token}
 use Rattle.goals.specs.declared.token.Token.TheVariants as token
 use Rattle.goals.specs.declared.words.Words.{Words}
-use Rattle.goals.specs.declared.words.Called.{Called}
 use Rattle.goals.specs.declared.progress.Progress.{Progress}
 use Rattle.goals.specs.declared.progress.Bound as code
 use Rattle.goals.specs.declared.progress.Timed.{Timed}
-use Rattle.goals.specs.Tokens.{Tok, word, variable, digits, mark, bad, Source, end, next, lexed, value}
+use Rattle.goals.specs.Tokens.{variable, mark, Source, lexed}
 use Rattle.goals.specs.Vocabulary.{Vocabulary}
 use Rattle.goals.specs.Syntax as syntax
 use Rattle.goals.specs.Grammar.{unary_mark, modal_mark, quantifier_mark}
-use Rattle.goals.specs.Layout.{laid, below, size}
+use Rattle.goals.specs.Layout.{laid, below}
 use Rattle.goals.specs.declared.goal.Node.{Node}
 use Rattle.goals.specs.declared.goal.Term.{Term}
 use Rattle.goals.specs.declared.progress.Joint.TheVariants as joint
 use Rattle.goals.specs.Scopes.{variable_of, in_use, bind, newest, has_room, binding}
 use Rattle.goals.specs.Conditions.{names, mentions, prefix_nodes}
 use Rattle.goals.specs.Seen.{seen, placed, sign_of, plain}
-use Rattle.goals.specs.Tree.{Tree, term_of, term_by, atom_of, ends_of, item-tree}
-use Rattle.goals.specs.Reading.{Place, at, under, open_at, right_of, joined_or, scope_at, Stage, wants, after, equals, asks, right_side, given, complete, of_until, expects, opens, binds, bounds, of_modal, Opener, Asker, asker_scope, Role, bound, role_scope, role_holds, tested, Moved, may, move, Outcome, fault, walk, run}
+use Rattle.goals.specs.Tree.{Tree, term_of, term_by, atom_of, item-tree}
+use Rattle.goals.specs.Reading.{Place, at, under, open_at, right_of, joined_or, scope_at, wants, after, equals, asks, right_side, complete, of_until, expects, opens, binds, bounds, of_modal, Opener, Asker, asker_scope, Role, bound, role_scope, may, move, fault, walk, run}
 use Rattle.goals.specs.GoalFaults.{told}
-use Rattle.goals.specs.Promises.{text_of, vocabulary, tokens, items, from, Passed, Added, Still, Here, SignRead, head_sign, head_place, is_bound, has_bound, test_stage, role_nodes, TestRead, EndsRead, BoundRead, CalledHere, TimedRead, QuantifiedRead, unary_meant, timed_meant, quantified_meant, PrefixRead, JointRead, Made, OperandRead, ItemRead}
+use Rattle.goals.specs.Promises.{text_of, vocabulary, tokens, items, from, Passed, Added, Here, SignRead, head_sign, head_place, is_bound, has_bound, test_stage, role_nodes, TestRead, EndsRead, BoundRead, TimedRead, QuantifiedRead, unary_meant, timed_meant, quantified_meant, PrefixRead, JointRead, Made, OperandRead, ItemRead}
 use Rattle.goals.proofs.Moves.{step, fail, overrun, still-then, still-passed}
 use Rattle.goals.proofs.Terms.{expected, unexpected}
 
@@ -89,7 +88,7 @@ module _ (ls : Letters) (v : ℕ) (room : has_room ls ≡ true) (fresh : in_use 
 
   pub test-mentions : (V : Vocabulary) (t : syntax.Test) → mentions v t ≡ has_bound (newest ls) (atom_of V (bind ls v) t)
   test-mentions V (syntax.bare b) = refl
-  test-mentions V (syntax.of_one b x) = operand-names x ∙ sym (or_false (is_bound (newest ls) (term_of (bind ls v) x)))
+  test-mentions V (syntax.of_one b x) = operand-names x ∙ sym (or-false (is_bound (newest ls) (term_of (bind ls v) x)))
   test-mentions V (syntax.of_two b x y) = ap₂ (λ i j. i || j) (operand-names x) (operand-names y)
 
 -- a quantifier's variable

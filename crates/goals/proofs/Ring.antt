@@ -1,9 +1,8 @@
 -- What each way through the formula, clause, item and bracket readers says, over plain values.
-use Rattle.std.proofs.Common.{◌≡◌, ℕ, suc, ◌+◌, ◌-◌, ◌<◌, ◌≤◌, Bool, true, false, cond, eqb, ltb, List, [], ◌∷◌, ◌++◌, length, Some, None, Ok, Err, vec_items, vec_len, Option, Result, sym, refl, ap, ◌∙◌, subst, ap₂, arith, length-append, le-ltb, lt-ltb, ne_eqb}
-use Rattle.std.proofs.lemmas.Bool.{cond-true, cond-false}
+use Rattle.std.proofs.Common.{◌≡◌, ℕ, ◌+◌, ◌<◌, ◌≤◌, true, false, eqb, ltb, List, [], ◌∷◌, ◌++◌, length, Some, None, Ok, Err, vec_len, Option, Result, sym, refl, ap, ◌∙◌, subst, ap₂, arith, length-append, le-ltb, lt-ltb, ne_eqb}
+use Rattle.std.proofs.lemmas.Bool.{cond-false}
 use Rattle.goals.specs.declared.goal.Atom.{Atom}
 use Rattle.goals.specs.declared.goal.Term.{Term}
-use Rattle.goals.specs.declared.goal.Node.{Node}
 use Rattle.goals.specs.declared.goal.Node.TheVariants as node
 use Rattle.goals.specs.declared.goal_fault.GoalFault.{GoalFault}
 use Rattle.goals.specs.declared.scope.Scope.{Scope}
@@ -11,21 +10,21 @@ use Rattle.goals.specs.declared.words.Words.{Words}
 use Rattle.goals.specs.declared.progress.Progress.{Progress}
 use Rattle.goals.specs.declared.progress.Opening.{Opening}
 use Rattle.goals.specs.declared.progress.Joint.{Joint}
-use Rattle.goals.specs.Tokens.{Tok, word, variable, digits, mark, bad, Source, end, next, lexed, value}
+use Rattle.goals.specs.Tokens.{word, variable, digits, mark, bad, Source, end, next, lexed, value}
 use Rattle.goals.specs.Vocabulary.{Vocabulary}
 use Rattle.goals.specs.Syntax as syntax
 use Rattle.goals.specs.Scopes.{in_use, inside, deeper}
 use Rattle.goals.specs.Conditions.{prefix_nodes, joint_nodes}
-use Rattle.goals.specs.Tree.{Tree, and, or, term_of, item-tree, clause-tree, formula-tree, prefix_tree}
-use Rattle.goals.specs.Layout.{laid, below, size}
-use Rattle.goals.specs.Reading.{Around, open_at, right_of, Place, at, under, scope_at, scope_around, alone, Stage, wants, after, equals, joined_or, complete, Moved, cannot, may, among, following, followed, move, Outcome, fault, walk, run}
+use Rattle.goals.specs.Tree.{Tree, term_of, item-tree, clause-tree, formula-tree}
+use Rattle.goals.specs.Layout.{laid, below}
+use Rattle.goals.specs.Reading.{Around, open_at, right_of, Place, at, under, scope_at, scope_around, alone, Stage, wants, after, equals, joined_or, complete, followed, move, fault, walk, run}
 use Rattle.goals.specs.GoalFaults.{told}
-use Rattle.goals.specs.Promises.{text_of, vocabulary, tokens, items, from, Passed, Added, Here, Still, SignRead, head_sign, head_place, bracketed, test_stage, TestRead, EquationSays, Closed, closing_size, meant, opened, PrefixRead, JointRead, joint_opened, joint_node, Made, ItemRead, ItemSays, ClauseRead, FormulaRead}
+use Rattle.goals.specs.Promises.{text_of, vocabulary, tokens, items, from, Passed, Added, Here, SignRead, head_sign, head_place, bracketed, TestRead, EquationSays, Closed, closing_size, meant, opened, PrefixRead, JointRead, joint_opened, joint_node, Made, ItemRead, ItemSays, ClauseRead, FormulaRead}
 use Rattle.goals.proofs.Going.{ClauseNow, ClauseGoing, FormulaNow, FormulaGoing}
 use Rattle.goals.proofs.Adding.{long}
-use Rattle.goals.proofs.Moves.{stops, halts, step, fail, overrun, sign_step}
+use Rattle.goals.proofs.Moves.{step, fail, overrun, sign_step}
 use Rattle.goals.proofs.Prefixes.{made_leaf}
-use Rattle.goals.proofs.Making.{longer, made-prefix, made-both, made-either, made_pair, AfterMade}
+use Rattle.goals.proofs.Making.{longer, made-prefix, made-both, made-either, made_pair}
 
 -- the same stage where only the count and the place have other names
 moved : (p q : Progress) (W : Words) (g : Stage) → q.count ≡ p.count → q.at ≡ p.at → from W p g ≡ from W q g

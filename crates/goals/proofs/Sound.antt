@@ -1,12 +1,12 @@
 -- What is read, the grammar derives: a stage says what the tokens before it are parts of.
-use Rattle.std.proofs.Common.{◌≡◌, ℕ, zero, suc, ◌+◌, ◌<◌, ◌≤◌, Bool, true, false, cond, ◌&&◌, eqb, leb, List, [], ◌∷◌, Some, None, Option, sym, refl, ap, ◌∙◌, subst, ap₂, arith, eqb-true}
+use Rattle.std.proofs.Common.{◌≡◌, ℕ, ◌<◌, Bool, true, false, cond, eqb, List, [], ◌∷◌, Some, None, Option, sym, refl, ap, ◌∙◌, subst, arith, eqb-true}
 use Rattle.std.proofs.lemmas.Bool.{both_ways}
 use Rattle.goals.specs.Tokens as token
 use Rattle.goals.specs.Tokens.{Tok, word, digits, mark, bad, Source, end, next}
 use Rattle.goals.specs.Vocabulary.{Vocabulary, Found, Places, none, one, two, places}
 use Rattle.goals.specs.Syntax as syntax
-use Rattle.goals.specs.Grammar.{operand_token, unary_mark, modal_mark, quantifier_mark, IsInterval, is_unwritten, is_from_to, is_from_on, IsTest, is_bare, is_of_one, is_of_two, IsSimple, is_truth, is_test, is_equal, IsPrefix, is_unary, is_timed, is_quantified, IsJoint, is_until, is_implies, IsFormula, is-clause, is-either, IsClause, is-item, is-both, IsItem, is-simple, is-prefixed, is-group, is-pair}
-use Rattle.goals.specs.Reading.{Around, top, open_at, right_of, Place, at, under, Role, alone, bound, role_holds, Asker, right_side, argument, Pending, only, first, second, Opener, of_modal, of_until, resume, Stage, wants, after, expects, equals, asks, closes, binds, bounds, opens, lower, upper, joined_and, joined_or, complete, tested, given, Moved, cannot, may, among, signed, closing, following, starting, named, move, Outcome, read, fault, ended, ended_around, followed, walk, start}
+use Rattle.goals.specs.Grammar.{operand_token, modal_mark, quantifier_mark, IsInterval, is_unwritten, is_from_to, is_from_on, IsTest, is_bare, is_of_one, is_of_two, IsSimple, is_truth, is_test, is_equal, IsPrefix, is_unary, is_timed, is_quantified, IsJoint, is_until, is_implies, IsFormula, is-clause, is-either, IsClause, is-item, is-both, IsItem, is-simple, is-prefixed, is-group, is-pair}
+use Rattle.goals.specs.Reading.{Around, top, open_at, right_of, Place, at, under, Role, alone, bound, role_holds, Asker, right_side, Opener, of_modal, of_until, resume, Stage, wants, after, expects, equals, asks, closes, binds, bounds, opens, lower, upper, joined_and, joined_or, complete, tested, given, Moved, cannot, may, among, closing, following, starting, named, move}
 
 module _ (V : Vocabulary) where
   -- what stands left of an "and" that goes on at s, and of an "or"

@@ -1,15 +1,13 @@
 -- Stretches of a file: some bytes that stand from one place to another. What was decoded, written out again, is a stretch.
-use Rattle.std.proofs.Common.{◌≡◌, ℕ, zero, suc, ◌+◌, ◌-◌, ◌*◌, ◌/◌, ◌%◌, ◌<◌, ◌≤◌, true, ◌&&◌, eqb, leb, List, [], ◌∷◌, ◌++◌, length, get_or, Ok, sym, refl, ap, ◌∙◌, subst, ap₂, append_assoc, arith, length-append}
+use Rattle.std.proofs.Common.{◌≡◌, ℕ, zero, suc, ◌+◌, ◌*◌, ◌/◌, ◌%◌, ◌<◌, true, eqb, leb, List, [], ◌∷◌, ◌++◌, length, sym, refl, ap, ◌∙◌, subst, ap₂, append_assoc, arith, length-append}
 use Rattle.std.specs.List.{flat_map}
-use Rattle.std.proofs.lemmas.List.{get_or_at, append-nil}
+use Rattle.std.proofs.lemmas.List.{get_or_at}
 use Rattle.std.proofs.lemmas.Bool.{and_parts, eqb-true}
-use Rattle.registers.specs.declared.fact.Fact.{Fact}
-use Rattle.goals.specs.declared.frame.Frame.{Frame}
 use Rattle.goals.specs.Bytes.{byte_at, word_at}
-use Rattle.goals.specs.Frame.{marked, predicates_end, operations_end, frame_of, framed}
-use Rattle.goals.specs.Filling.{fact_at, facts_from, facts_of}
-use Rattle.goals.specs.Sections.{PredicateText, EntryText, OperationText, bytes_at, predicate_at, predicates_from, entry_at, entries_at, operation_at, operations_from}
-use Rattle.goals.specs.Written.{StepText, step_at, steps_from, Edition, two, predicate_bytes, entry_bytes, operation_bytes, fact_bytes, step_bytes, head_bytes, edition_bytes, edition_of, ByteList, FrameIsWhole}
+use Rattle.goals.specs.Frame.{marked, predicates_end, operations_end, frame_of}
+use Rattle.goals.specs.Filling.{fact_at, facts_from}
+use Rattle.goals.specs.Sections.{bytes_at, predicate_at, predicates_from, entry_at, entries_at, operation_at, operations_from}
+use Rattle.goals.specs.Written.{step_at, steps_from, two, predicate_bytes, entry_bytes, operation_bytes, fact_bytes, step_bytes, head_bytes, edition_bytes, edition_of, ByteList, FrameIsWhole}
 use Rattle.goals.proofs.FrameSteps.{accepted}
 use Rattle.goals.proofs.FillSteps.{facts-count}
 use Rattle.goals.proofs.PredicateSteps.{bytes_count, predicates-count}

@@ -1,26 +1,23 @@
 -- How terms and tests are read, over plain values.
-use Rattle.std.proofs.Common.{◌≡◌, ℕ, zero, suc, ◌+◌, ◌<◌, ◌≤◌, Bool, true, false, cond, ◌&&◌, eqb, ltb, leb, List, [], ◌∷◌, length, IsErrAnd, Ok, Err, Result, sym, refl, ap, ◌∙◌, subst, ap₂, arith, Bor, eq-eqb}
+use Rattle.std.proofs.Common.{◌≡◌, ℕ, zero, suc, ◌+◌, ◌<◌, ◌≤◌, Bool, true, false, cond, eqb, ltb, List, length, IsErrAnd, Ok, Err, Result, sym, refl, ap, ◌∙◌, subst, ap₂, arith, Bor, eq-eqb}
 use Rattle.std.proofs.lemmas.Bool.{cond-true}
 use Rattle.goals.specs.declared.goal.Term.{Term}
 use Rattle.goals.specs.declared.goal.Term.TheVariants.{Id}
-use Rattle.goals.specs.declared.goal.Atom.{Atom}
 use Rattle.goals.specs.declared.goal_fault.GoalFault.{GoalFault}
 use Rattle.goals.specs.declared.scope.Scope.{Scope}
 use Rattle.goals.specs.declared.token.Token.{Token}
 use Rattle.goals.specs.declared.token.Token.TheVariants as token
 use Rattle.goals.specs.declared.words.Words.{Words}
-use Rattle.goals.specs.declared.words.Called.{Called}
 use Rattle.goals.specs.declared.progress.Progress.{Progress}
-use Rattle.goals.specs.Tokens.{Tok, word, variable, digits, mark, bad, Source, end, next, lexed, value}
+use Rattle.goals.specs.Tokens.{word, variable, digits, Source, value}
 use Rattle.goals.specs.Vocabulary.{Vocabulary, Found, missing, found, Places, none, one, two, places, places_of, number}
 use Rattle.goals.specs.Syntax as syntax
 use Rattle.goals.specs.Scopes.{in_use}
 use Rattle.goals.specs.Seen.{seen, placed}
-use Rattle.goals.specs.Tree.{term_of, atom_of}
-use Rattle.goals.specs.Reading.{Stage, wants, expects, asks, closes, Asker, argument, asker_scope, Role, alone, bound, role_scope, role_holds, Pending, only, first, second, tested, given, Moved, cannot, may, named, move, Outcome, fault, ended, walk, run}
+use Rattle.goals.specs.Reading.{Stage, wants, expects, asks, closes, Asker, argument, asker_scope, Role, alone, bound, role_scope, role_holds, Pending, only, first, second, tested, given, may, named, move, Outcome, fault, walk, run}
 use Rattle.goals.specs.GoalFaults.{told}
 use Rattle.goals.specs.Promises.{text_of, vocabulary, tokens, items, from, Passed, Still, Here, SignRead, head_sign, head_place, OperandRead, SecondRead, TestRead, test_stage, role_nodes}
-use Rattle.goals.proofs.Moves.{stops, halts, lone, step, fail, overrun, sign_step, sign_fail, still-then}
+use Rattle.goals.proofs.Moves.{lone, step, fail, overrun, sign_step, sign_fail, still-then}
 
 -- what a `?` hands on
 pub broke : {A : Type 0} (P : Result A GoalFault → Type 0) (x : GoalFault) (r : Result A GoalFault) → IsErrAnd r (λ y. y ≡ x) → P (Err x) → P r

@@ -1,20 +1,17 @@
 -- What the outcome of a reading means.
-use Rattle.std.proofs.Common.{◌≡◌, ℕ, zero, suc, ◌+◌, ◌<◌, ◌≤◌, Bool, true, false, cond, leb, ◌⊎◌, List, [], ◌∷◌, length, Some, None, Option, sym, refl, ap, ◌∙◌, subst, ap₂, inl, inr, ⊎_elim, arith}
+use Rattle.std.proofs.Common.{◌≡◌, ℕ, ◌+◌, Bool, true, false, cond, leb, List, length, sym, refl, ap, ◌∙◌, subst, inl, inr, ⊎_elim, arith}
 use Rattle.std.proofs.lemmas.Bool.{cases_lt, both_ways}
-use Rattle.goals.specs.Tokens as token
-use Rattle.goals.specs.Tokens.{Tok, word, digits, mark, bad, Source, end, next, lexed}
-use Rattle.goals.specs.Vocabulary.{Vocabulary, Found, Places, none, one, two, places}
-use Rattle.goals.specs.Syntax as syntax
+use Rattle.goals.specs.Tokens.{Source, end, next, lexed}
+use Rattle.goals.specs.Vocabulary.{Vocabulary}
 use Rattle.goals.specs.Syntax.{Formula}
-use Rattle.goals.specs.Grammar.{IsFormula, is-clause, IsItem, is-simple, is_truth, is-group, is-pair, is-prefixed}
+use Rattle.goals.specs.Grammar.{IsFormula}
 use Rattle.goals.specs.Scopes.{outermost}
-use Rattle.goals.specs.Tree.{Tree}
 use Rattle.goals.specs.Conditions.{known-formula, ranged-formula, shallow-formula, formula_nodes}
-use Rattle.goals.specs.Reading.{Around, top, open_at, right_of, Place, at, under, Role, alone, bound, Asker, right_side, argument, Pending, only, first, second, Opener, of_modal, of_until, resume, Stage, wants, after, expects, equals, asks, closes, binds, bounds, opens, lower, upper, joined_or, complete, tested, given, Moved, cannot, may, named, move, Outcome, read, fault, ended, ended_around, followed, walk, run, start, reads}
-use Rattle.goals.specs.GoalClaims.{tree_of, Derives, Allowed, Accepts, Allows, Exactly, OnlyReading, Placed, then, Grammatical, Begins, CannotFollow, Misplaced, RightPlace}
+use Rattle.goals.specs.Reading.{Around, top, Stage, wants, after, expects, equals, asks, closes, binds, bounds, opens, lower, upper, Moved, cannot, may, move, read, fault, ended, ended_around, followed, walk, run, start, reads}
+use Rattle.goals.specs.GoalClaims.{Derives, Allowed, Exactly, OnlyReading}
 use Rattle.goals.proofs.Whole.{reads_short, reads-long}
-use Rattle.goals.proofs.Judging.{Faulted, Goes, Meets, Formed, formula-reads}
-use Rattle.goals.proofs.Sound.{OkAround, at_top, in-open, in_right, OkPlace, an_item, in-prefix, OkStage, ok_wants, ok_after, ok_expects, ok_equals, ok_asks, ok_closes, ok_binds, ok_bounds, ok_opens, ok_lower, ok_upper, OkMoved, joins_and, joins_or, completed, starts, keeps, resumes}
+use Rattle.goals.proofs.Judging.{Goes, Meets, formula-reads}
+use Rattle.goals.proofs.Sound.{OkAround, at_top, in-open, in_right, OkStage, ok_after, OkMoved, joins_or, starts, keeps}
 
 fault-read : {c p : ℕ} {f : Formula} {A : Type 0} → fault c p ≡ read f → A
 fault-read {c} {p} {f} e = let z : ◌≡◌ {A = ℕ} 0 1 = cc in absurd (omega arith)

@@ -1,16 +1,16 @@
 -- Where a reading stops with 4: the tokens before begin a text of the grammar, and none goes on as this one does.
-use Rattle.std.proofs.Common.{◌≡◌, ℕ, zero, suc, ◌+◌, ◌<◌, ◌≤◌, Bool, true, false, cond, leb, ◌⊎◌, List, [], ◌∷◌, length, Some, None, Option, sym, refl, ap, ◌∙◌, subst, ap₂, inl, inr, ⊎_elim, arith}
-use Rattle.std.proofs.lemmas.Bool.{cases_lt, both_ways}
+use Rattle.std.proofs.Common.{◌≡◌, ℕ, ◌+◌, Bool, true, false, cond, leb, List, [], ◌∷◌, length, sym, refl, ap, ◌∙◌, subst, ⊎_elim, arith}
+use Rattle.std.proofs.lemmas.Bool.{cases_lt}
 use Rattle.goals.specs.Tokens as token
 use Rattle.goals.specs.Tokens.{Tok, word, digits, mark, bad, Source, end, next, lexed}
 use Rattle.goals.specs.Vocabulary.{Vocabulary, Found, Places, none, one, two, places}
 use Rattle.goals.specs.Syntax as syntax
 use Rattle.goals.specs.Syntax.{Formula}
-use Rattle.goals.specs.Grammar.{IsFormula, is-clause, IsItem, is-simple, is_truth, is-group, is-pair, is-prefixed, is_unwritten}
-use Rattle.goals.specs.Reading.{Around, top, open_at, right_of, Place, at, under, Role, alone, bound, Asker, right_side, argument, Pending, only, first, second, Opener, of_modal, of_until, resume, Stage, wants, after, expects, equals, asks, closes, binds, bounds, opens, lower, upper, joined_or, complete, tested, given, Moved, cannot, may, named, move, Outcome, read, fault, ended, ended_around, followed, walk, run, start, reads}
-use Rattle.goals.specs.GoalClaims.{Derives, Placed, then, Grammatical, Begins, CannotFollow, Misplaced, RightPlace}
+use Rattle.goals.specs.Grammar.{IsFormula, IsItem, is-simple, is_truth, is-group, is-pair, is-prefixed, is_unwritten}
+use Rattle.goals.specs.Reading.{Around, top, open_at, right_of, Place, at, under, Role, alone, bound, Asker, right_side, argument, only, first, second, Opener, resume, Stage, wants, after, expects, equals, asks, closes, binds, bounds, opens, lower, upper, complete, tested, Moved, cannot, may, named, move, read, fault, ended, followed, walk, run, start}
+use Rattle.goals.specs.GoalClaims.{Placed, then, Grammatical, CannotFollow, Misplaced, RightPlace}
 use Rattle.goals.proofs.Whole.{reads_short, reads-long}
-use Rattle.goals.proofs.Sound.{OkAround, at_top, in-open, in_right, OkPlace, an_item, in-prefix, OkStage, ok_wants, ok_after, ok_expects, ok_equals, ok_asks, ok_closes, ok_binds, ok_bounds, ok_opens, ok_lower, ok_upper, OkMoved, joins_and, joins_or, starts, keeps, resumes}
+use Rattle.goals.proofs.Sound.{OkAround, at_top, in-open, in_right, OkPlace, an_item, in-prefix, OkStage, ok_wants, ok_after, ok_expects, ok_equals, ok_asks, ok_closes, ok_binds, ok_opens, ok_lower, ok_upper, OkMoved, joins_and, joins_or, starts, keeps, resumes}
 use Rattle.goals.proofs.Theorems.{grammar_reads}
 
 read-fault : {c p : ℕ} {f : Formula} {A : Type 0} → read f ≡ fault c p → A

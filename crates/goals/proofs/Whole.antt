@@ -1,5 +1,5 @@
 -- A whole text.
-use Rattle.std.proofs.Common.{◌≡◌, ℕ, ◌+◌, ◌<◌, ◌≤◌, Bool, true, false, cond, leb, List, [], ◌∷◌, ◌++◌, length, get_or, Some, None, vec_items, vec_len, Option, sym, refl, ap, ◌∙◌, subst, ap₂, zero-add, arith, le-leb}
+use Rattle.std.proofs.Common.{◌≡◌, ℕ, ◌+◌, ◌<◌, ◌≤◌, true, leb, List, [], ◌∷◌, ◌++◌, length, get_or, vec_len, Option, sym, refl, ap, ◌∙◌, subst, ap₂, zero-add, arith, le-leb}
 use borrow.Author.Tests.{lt-leb}
 use Rattle.std.proofs.lemmas.Bool.{cond-true, cond-false}
 use Rattle.goals.specs.declared.goal.Node.{Node}
@@ -13,8 +13,8 @@ use Rattle.goals.specs.Vocabulary.{Vocabulary}
 use Rattle.goals.specs.Syntax as syntax
 use Rattle.goals.specs.Seen.{seen, placed}
 use Rattle.goals.specs.Tree.{Tree}
-use Rattle.goals.specs.Layout.{laid, below, size}
-use Rattle.goals.specs.Reading.{top, after, joined_or, Outcome, read, fault, start, walk, move, run, reads}
+use Rattle.goals.specs.Layout.{laid, below}
+use Rattle.goals.specs.Reading.{top, after, joined_or, read, fault, start, walk, move, run, reads}
 use Rattle.goals.specs.GoalTable.{parts_below}
 use Rattle.goals.proofs.Making.{length-laid}
 use Rattle.goals.proofs.Ordered.{all-at, laid-ordered}

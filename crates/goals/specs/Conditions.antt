@@ -1,6 +1,6 @@
 -- What a parse tree may have wrong beyond its grammar: unknown words (5), numbers out of range (6), too much of something (7).
 -- Each is told of the tree, of the scope that it stands in and of the catalogue's words.
-use Rattle.std.specs.Prelude.{ℕ, ◌+◌, Bool, true, false, cond, not, ◌&&◌, ◌||◌, ◌==◌, nat_le, nat_lt}
+use Rattle.std.specs.Prelude.{ℕ, ◌+◌, Bool, true, false, not, ◌&&◌, ◌||◌, ◌==◌, nat_le, nat_lt}
 use Rattle.goals.specs.declared.scope.Scope.{Scope}
 use Rattle.goals.specs.Tokens.{value}
 use Rattle.goals.specs.Vocabulary.{Vocabulary, is_known}

@@ -1,6 +1,6 @@
 -- What an operation in memory says, written out as the bytes of a file: terms, entries and operations.
 -- So a catalogue that was read is pinned by the bytes that it was read from.
-use Rattle.std.specs.Prelude.{ℕ, ◌+◌, min, cond, List, map, take}
+use Rattle.std.specs.Prelude.{ℕ, ◌+◌, cond, List, map, take}
 use Rattle.goals.specs.declared.predicate.Predicate.{Predicate}
 use Rattle.goals.specs.declared.operation.EntryTerm.{EntryTerm}
 use Rattle.goals.specs.declared.operation.EntryTerm.TheVariants.{Id, Parameter}

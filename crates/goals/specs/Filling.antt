@@ -1,8 +1,8 @@
 -- The facts of an edition file: which it lists, which of them its catalogue allows, and what putting them all answers.
-use Rattle.std.specs.Prelude.{ℕ, zero, suc, ◌+◌, Bool, true, false, cond, not, ◌&&◌, List, [], ◌∷◌, Ok, Err, Result, ◌==◌, nat_le, nat_lt}
+use Rattle.std.specs.Prelude.{ℕ, zero, suc, ◌+◌, Bool, true, cond, ◌&&◌, List, [], ◌∷◌, Ok, Err, Result, ◌==◌, nat_le, nat_lt}
 use Rattle.registers.specs.declared.fact.Fact.{Fact}
 use Rattle.registers.specs.declared.refusal.Refusal.{Refusal}
-use Rattle.registers.specs.declared.refusal.Refusal.TheVariants.{OutOfBounds, Full}
+use Rattle.registers.specs.declared.refusal.Refusal.TheVariants.{OutOfBounds}
 use Rattle.registers.specs.Meaning.{Meaning, including_all, put_all_answer}
 use Rattle.goals.specs.declared.frame.Frame.{Frame}
 use Rattle.goals.specs.Bytes.{byte_at}

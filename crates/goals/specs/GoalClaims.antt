@@ -1,6 +1,6 @@
 -- What reading a goal text promises: the outcome is the defined one, and the table unfolds into its tree.
 -- The theorems say what the defined outcome means, in terms of the grammar and of the conditions.
-use Rattle.std.specs.Prelude.{◌≡◌, ℕ, ◌<◌, ◌≤◌, Bool, true, false, List, [], ◌∷◌, length, Ok, Err, vec_items, Result}
+use Rattle.std.specs.Prelude.{◌≡◌, ℕ, ◌<◌, ◌≤◌, true, List, [], ◌∷◌, length, Ok, Err, vec_items, Result}
 use Rattle.goals.specs.declared.goal.Goal.{Goal}
 use Rattle.goals.specs.declared.goal_fault.GoalFault.{GoalFault}
 use Rattle.goals.specs.Tokens.{Tok, Source, end, next, lexed}
@@ -10,7 +10,7 @@ use Rattle.goals.specs.Grammar.{IsFormula}
 use Rattle.goals.specs.Scopes.{outermost}
 use Rattle.goals.specs.Tree.{Tree, formula-tree}
 use Rattle.goals.specs.Conditions.{known-formula, ranged-formula, shallow-formula, formula_nodes}
-use Rattle.goals.specs.Reading.{Outcome, read, fault, start, run, reads}
+use Rattle.goals.specs.Reading.{read, fault, reads}
 use Rattle.goals.specs.GoalFaults.{told}
 use Rattle.goals.specs.GoalTable.{Unfolds, numbers, occurs}
 

@@ -3,7 +3,7 @@
 use Rattle.std.specs.Prelude.{◌≡◌, ℕ, List}
 use Rattle.goals.specs.Tokens as token
 use Rattle.goals.specs.Tokens.{Tok, word, digits, mark, Source, end, next}
-use Rattle.goals.specs.Vocabulary.{Vocabulary, Places, none, one, two, places}
+use Rattle.goals.specs.Vocabulary.{Vocabulary, none, one, two, places}
 use Rattle.goals.specs.Syntax.{Operand, variable, id, Test, bare, of_one, of_two, Interval, unwritten, from_to, from_on, Simple, truth, test, equal, Unary, not, Modal, eventually, henceforth, Quantifier, for_all, exists, Prefix, unary, timed, quantified, Joint, until, implies, Formula, one_clause, either, Clause, one_item, both, Item, simple, prefixed, group, pair}
 use Rattle.goals.specs.Syntax as syntax
 

@@ -1,7 +1,6 @@
 -- What reading a job from a file comes to, and what filling a register from it does.
 -- A file is tested for its frame (18, then 19), its catalogue (1, then 2) and its goal (3, then 4 to 7 from left to right); a filling then for its facts (8, then 9).
 use Rattle.std.specs.Prelude.{◌≡◌, ℕ, true, false, List, Ok, Err, Result}
-use Rattle.registers.specs.declared.refusal.Refusal.{Refusal}
 use Rattle.registers.specs.Meaning.{Meaning, including_all}
 use Rattle.goals.specs.declared.frame.Frame.{Frame}
 use Rattle.goals.specs.declared.job.Job as code

@@ -1,6 +1,6 @@
 -- What the reader's inner functions promise: the stage that they begin at leads to the stage that they end at, wherever it stands.
 -- They add a tree's nodes to the table, and count as many.
-use Rattle.std.specs.Prelude.{◌≡◌, ℕ, ◌+◌, ◌<◌, ◌≤◌, Bool, true, false, cond, ◌||◌, List, [], ◌∷◌, ◌++◌, length, Some, None, Ok, Err, vec_items, vec_len, Option, Result, ◌≢◌, nat_lt}
+use Rattle.std.specs.Prelude.{◌≡◌, ℕ, ◌+◌, ◌<◌, ◌≤◌, Bool, true, false, cond, ◌||◌, List, [], ◌∷◌, ◌++◌, length, None, Ok, Err, vec_items, Option, Result, ◌≢◌, nat_lt}
 use Rattle.goals.specs.declared.time.Span.{Span}
 use Rattle.goals.specs.declared.goal.Variable.{Variable}
 use Rattle.goals.specs.declared.goal.Variable.TheVariants.{Outer, Inner}
@@ -29,7 +29,7 @@ use Rattle.goals.specs.Seen.{seen, used}
 use Rattle.goals.specs.Tokens.{Tok, mark, word, variable, digits, bad, Source, end, next, lexed, value}
 use Rattle.goals.specs.Vocabulary.{Vocabulary, vocabulary_of}
 use Rattle.goals.specs.Syntax as syntax
-use Rattle.goals.specs.Scopes.{variable_of, in_use, bind, newest, binding, inside}
+use Rattle.goals.specs.Scopes.{in_use, bind, newest, inside}
 use Rattle.goals.specs.Tree.{Tree, term_of, atom_of, span, ends_of, formula-tree, clause-tree, item-tree}
 use Rattle.goals.specs.Conditions.{prefix_nodes, joint_nodes}
 use Rattle.goals.specs.Reading.{Around, open_at, right_of, Place, at, under, scope_at, scope_around, Role, alone, bound, role_scope, role_holds, Asker, asker_scope, Opener, resume, Stage, wants, after, expects, asks, equals, binds, bounds, opens, lower, upper, joined_or, complete, tested, given, Outcome, fault, run}

@@ -1,13 +1,13 @@
 -- Reading from left to right: at each stage a token can follow or not, asks something of the catalogue, and counts for nodes.
 -- The first fault met is given: 4 where the token can't follow, else 5, 6 or 7 by what it asks, else 7 where its nodes pass 128.
-use Rattle.std.specs.Prelude.{ℕ, ◌+◌, Bool, true, false, cond, not, ◌&&◌, ◌||◌, List, [], ◌∷◌, length, Some, None, Option, ◌==◌, nat_le, nat_lt}
+use Rattle.std.specs.Prelude.{ℕ, ◌+◌, Bool, true, false, cond, not, ◌&&◌, List, [], ◌∷◌, length, Some, None, Option, ◌==◌, nat_le, nat_lt}
 use Rattle.goals.specs.declared.scope.Scope.{Scope}
 use Rattle.goals.specs.Tokens.{Tok, word, variable, digits, mark, bad, Source, end, next, lexed, value}
 use Rattle.goals.specs.Vocabulary.{Vocabulary, Found, Places, none, one, two, is_known, places}
 use Rattle.goals.specs.Syntax as syntax
 use Rattle.goals.specs.Syntax.{Operand, Test, bare, of_one, of_two, Interval, unwritten, from_to, from_on, Modal, eventually, henceforth, Quantifier, Prefix, unary, timed, quantified, Joint, Formula, one_clause, either, Clause, one_item, both, Item, simple, prefixed, group, pair}
 use Rattle.goals.specs.Scopes.{in_use, has_room, outermost, deeper, binding, inside}
-use Rattle.goals.specs.Conditions.{mentions, known_operand, ranged_operand}
+use Rattle.goals.specs.Conditions.{mentions}
 
 mutual
   -- where a formula stands: it is the whole, or the first or the second one in a bracket

@@ -1,6 +1,6 @@
 -- The tokens of a goal text, each with its place, and last the place of the end.
 -- Small letters in a row are one token, and so are digits, and letters after a question mark; blanks stand between tokens.
-use Rattle.std.specs.Prelude.{ℕ, zero, suc, ◌+◌, ◌-◌, ◌*◌, Bool, true, false, cond, ◌&&◌, ◌||◌, List, [], ◌∷◌, length, take, drop, ◌==◌, nat_le}
+use Rattle.std.specs.Prelude.{ℕ, zero, suc, ◌+◌, ◌-◌, ◌*◌, Bool, false, cond, ◌&&◌, ◌||◌, List, [], ◌∷◌, length, take, drop, ◌==◌, nat_le}
 
 -- a name, a variable by its letter, a number by its digits, a sign by its character, or what is none of these
 pub data Tok : Type 0 where

@@ -1,6 +1,6 @@
 -- The tree that a goal text stands for: `F`, `G` and `>` are written out, names and variables are looked up.
 -- `F` is true-until, `G` is not true-until-not, `a > b` is `!a | b`; ends that are not written are from 0 on.
-use Rattle.std.specs.Prelude.{ℕ, Bool, true, false, cond, List, Some, None, Option}
+use Rattle.std.specs.Prelude.{ℕ, Some, None, Option}
 use Rattle.goals.specs.declared.time.Span.{Span}
 use Rattle.goals.specs.declared.goal.Variable.{Variable}
 use Rattle.goals.specs.declared.goal.Term.{Term}

@@ -1,10 +1,10 @@
 -- An edition as it is written: its parts, and the bytes of the file that they make.
 -- The frame of a file is accepted exactly if the file is some edition's bytes, at most 40,000 of them.
-use Rattle.std.specs.Prelude.{◌≡◌, ℕ, zero, suc, ◌+◌, ◌/◌, ◌%◌, ◌<◌, ◌≤◌, List, [], ◌∷◌, ◌++◌, length, get_or, Ok, Err}
+use Rattle.std.specs.Prelude.{◌≡◌, ℕ, zero, suc, ◌+◌, ◌/◌, ◌%◌, ◌<◌, ◌≤◌, List, [], ◌∷◌, ◌++◌, length, Ok}
 use Rattle.std.specs.List.{flat_map}
 use Rattle.registers.specs.declared.fact.Fact.{Fact}
 use Rattle.goals.specs.declared.frame.Frame.{Frame}
-use Rattle.goals.specs.Bytes.{byte_at, word_at}
+use Rattle.goals.specs.Bytes.{byte_at}
 use Rattle.goals.specs.Frame.{framed}
 use Rattle.goals.specs.Filling.{facts_of}
 use Rattle.goals.specs.Sections.{PredicateText, EntryText, OperationText, bytes_at, predicates_from, operations_from}

@@ -63,7 +63,19 @@ impl Job {
     }
 
     // The node of that number, if there is one.
-    pub fn node(&self, number: usize) -> Option<&Node>
+    pub fn node(&self, number: usize) -> Option<Node>
+        ensures value { result ≡ slice_get (nodes_of self.now) number }
+        ensures sound { Sound self.now }
+    {
+        if number < self.goal.nodes.len() {
+            Some(self.goal.nodes[number])
+        } else {
+            None
+        }
+    }
+
+    // The same node where it lies, which is read faster than a copy.
+    pub fn node_ref(&self, number: usize) -> Option<&Node>
         ensures value { option_map (λ x. x.now) result ≡ slice_get (nodes_of self.now) number }
         ensures sound { Sound self.now }
     {

@@ -1,4 +1,6 @@
 // Edition files: their frame, the catalogue and the goal in them, and filling a register with their facts.
+#![tactic(auto)]
+
 mod bytes;
 pub mod catalogue;
 pub mod catalogue_fault;

@@ -4,6 +4,6 @@ use Rattle.goals.proofs.frame.walk.Goals as goal
 pub returns : goal.returns
 unfolding frame_of
 returns c =
-    let o = c.end-of-predicates-operations-at.ensures.value in
-    let f = c.end-of-operations-facts-at.ensures.value in
+    let o = c.end_of_predicates-operations_at.ensures.value in
+    let f = c.end_of_operations-facts_at.ensures.value in
     cc

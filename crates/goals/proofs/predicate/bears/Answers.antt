@@ -1,4 +1,4 @@
-use Rattle.std.proofs.Common.{◌≡◌, ◌-◌, take, sym, ap, ◌∙◌}
+use Rattle.std.proofs.Common.{◌-◌, take, ap, ◌∙◌}
 use native.Mathlib.Nat.{sub-zero}
 use Rattle.std.specs.Str.{bytes_eq}
 use Rattle.std.proofs.lemmas.Slice.Eq.{slice_eq-Decides}

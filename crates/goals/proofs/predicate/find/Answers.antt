@@ -1,4 +1,4 @@
-use Rattle.std.proofs.Common.{◌≡◌, ◌-◌, take, sym, ap, ◌∙◌, arith, length-take}
+use Rattle.std.proofs.Common.{sym, ◌∙◌, arith, length-take}
 use Rattle.goals.proofs.Finding.{find-here, find_on, find_none}
 use Rattle.goals.proofs.predicate.find.Goals as goal
 

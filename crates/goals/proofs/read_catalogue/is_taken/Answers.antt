@@ -9,7 +9,7 @@ use Rattle.goals.proofs.read_catalogue.is_taken.Goals as goal
 pub returns : goal.returns
 returns c =
     let n : c.args.predicate.now.length - 0 ≡ min c.args.predicate.now.length 16 = omega (arith, c.requires.short) in
-    c.is-some.ensures
+    c.is_some.ensures
     ∙ (meaning-known c.find.result
     ∙ (ap is_known (sym c.find.ensures)
     ∙ (ap (λ l. is_known (find_from 0 l (take (c.args.predicate.now.length - 0) c.args.predicate.now.name))) (take_all 256 c.args.predicates.now c.requires.few)

@@ -1,4 +1,4 @@
-use Rattle.std.proofs.Common.{◌≡◌, ◌+◌, ◌-◌, ◌*◌, ◌≤◌, List, [], ◌++◌, map, vec_items, sym, refl, ap, ◌∙◌, arith}
+use Rattle.std.proofs.Common.{◌≡◌, ◌+◌, ◌-◌, ◌*◌, [], ◌++◌, map, vec_items, sym, ap, ◌∙◌, arith}
 use Rattle.std.proofs.lemmas.List.{nil_from_length, append-nil}
 use Rattle.goals.specs.Sections.{operations_from}
 use Rattle.goals.specs.CatalogueMeaning.{sound_operations}
@@ -21,17 +21,17 @@ loop-k-init c =
       ap (operations_inside c.args.ids) none ∙ no_operations-inside c.args.ids,
     )
 
-pub returns-in-default : goal.returns-in-default
-returns-in-default c =
+pub returns-in_default : goal.returns-in_default
+returns-in_default c =
     operation-at-fault c.args.ids (map predicate_text c.args.predicates.now) (operations_from c.args.file.now c.args.count c.args.start)
     c.args.file.now c.args.count c.loop-k.k c.loop-k.at (vec_items c.loop-k.operations) c.loop-k.invariant.0
-    (sym c.loop-k.operations.ok.0 ∙ c.loop-k.invariant.2) c.loop-k-test.true c.in-default.ensures
+    (sym c.loop-k.operations.ok.0 ∙ c.loop-k.invariant.2) c.loop-k-test.true c.in_default.ensures
 
 pub loop-k-preserved : goal.loop-k-preserved
 loop-k-preserved c =
-    let items = c.push-reserved.ensures.items in
-    let len = c.push-reserved.ensures.len in
-    let cap = c.push-reserved.ensures.capacity in (
+    let items = c.push_reserved.ensures.items in
+    let len = c.push_reserved.ensures.len in
+    let cap = c.push_reserved.ensures.capacity in (
       c.loop-k.invariant.0
           ∙ (operations_table_more c.args.file.now c.args.count c.loop-k.k c.loop-k.at _ (vec_items c.loop-k.operations) c.in-Some.operation c.loop-k-test.true
           (omega (arith, c.entries.ensures.value)) c.in-Some.ensures.0

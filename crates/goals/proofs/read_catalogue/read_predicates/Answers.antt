@@ -1,4 +1,4 @@
-use Rattle.std.proofs.Common.{◌≡◌, ◌+◌, ◌-◌, ◌*◌, ◌≤◌, true, false, List, [], ◌++◌, map, vec_items, sym, refl, ap, ◌∙◌, arith}
+use Rattle.std.proofs.Common.{◌≡◌, ◌+◌, ◌-◌, [], ◌++◌, map, vec_items, sym, refl, ap, ◌∙◌, arith}
 use Rattle.std.proofs.lemmas.List.{nil_from_length, append-nil}
 use Rattle.goals.specs.Bytes.{byte_at}
 use Rattle.goals.specs.Sections.{predicates_from}
@@ -20,29 +20,29 @@ loop-init c =
       omega arith,
     )
 
-pub returns-in-default : goal.returns-in-default
-returns-in-default c =
+pub returns-in_default : goal.returns-in_default
+returns-in_default c =
     c.loop.invariant.1
-    ∙ test-bad c.args.file.now c.args.count c.loop.counter c.loop.at (map predicate_text (vec_items c.loop.predicates)) c.loop-test.true c.in-default.ensures
+    ∙ test-bad c.args.file.now c.args.count c.loop.counter c.loop.at (map predicate_text (vec_items c.loop.predicates)) c.loop-test.true c.in_default.ensures
 
-pub returns-then-is-taken : goal.returns-then-is-taken
-returns-then-is-taken c =
+pub returns-then-is_taken : goal.returns-then-is_taken
+returns-then-is_taken c =
     c.loop.invariant.1
     ∙ test-taken c.args.file.now c.args.count c.loop.counter c.loop.at _ (vec_items c.loop.predicates) c.in-Some.predicate c.loop-test.true refl c.in-Some.ensures.0
-    (ap (λ l. taken (name_of c.in-Some.predicate) (map predicate_text l)) (sym c.deref.ensures.value) ∙ sym c.if-is-taken.ensures)
+    (ap (λ l. taken (name_of c.in-Some.predicate) (map predicate_text l)) (sym c.deref.ensures.value) ∙ sym c.if-is_taken.ensures)
 
 pub loop-preserved : goal.loop-preserved
 loop-preserved c =
-    let items = c.push-reserved.ensures.items in
-    let len = c.push-reserved.ensures.len in
-    let cap = c.push-reserved.ensures.capacity in
+    let items = c.push_reserved.ensures.items in
+    let len = c.push_reserved.ensures.len in
+    let cap = c.push_reserved.ensures.capacity in
     let next : c.loop.at + (2 + c.in-Some.predicate.length) ≡ c.loop.at + 2 + byte_at c.args.file.now (c.loop.at + 1) = omega (arith, c.in-Some.ensures.3) in (
       c.loop.invariant.0
           ∙ (table_more c.args.file.now c.args.count c.loop.counter c.loop.at _ (vec_items c.loop.predicates) c.in-Some.predicate c.loop-test.true next c.in-Some.ensures.0
           ∙ ap (λ l. map predicate_text l ++ predicates_from c.args.file.now (c.args.count - (c.loop.counter + 1)) (c.loop.at + (2 + c.in-Some.predicate.length))) (sym items)),
       c.loop.invariant.1
           ∙ (test-more c.args.file.now c.args.count c.loop.counter c.loop.at _ (vec_items c.loop.predicates) c.in-Some.predicate c.loop-test.true next c.in-Some.ensures.0 c.in-Some.ensures.1
-          (ap (λ l. taken (name_of c.in-Some.predicate) (map predicate_text l)) (sym c.deref.ensures.value) ∙ sym c.if-is-taken.ensures)
+          (ap (λ l. taken (name_of c.in-Some.predicate) (map predicate_text l)) (sym c.deref.ensures.value) ∙ sym c.if-is_taken.ensures)
           ∙ ap (λ l. sound_predicates (map predicate_text l) (predicates_from c.args.file.now (c.args.count - (c.loop.counter + 1)) (c.loop.at + (2 + c.in-Some.predicate.length)))) (sym items)),
       omega (arith, len, c.loop.invariant.2),
       omega (arith, cap, c.loop.invariant.3),

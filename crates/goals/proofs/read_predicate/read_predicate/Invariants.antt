@@ -1,4 +1,4 @@
-use Rattle.std.proofs.Common.{◌≡◌, ◌+◌, ◌-◌, true, length, take}
+use Rattle.std.proofs.Common.{◌≡◌, ◌+◌, ◌-◌, length, take}
 use Rattle.goals.specs.Sections.{bytes_at}
 use Rattle.goals.specs.CatalogueRules.{all_letters}
 use Rattle.goals.proofs.read_predicate.read_predicate.Given as goal

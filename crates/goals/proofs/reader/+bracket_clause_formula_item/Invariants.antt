@@ -1,4 +1,4 @@
-use Rattle.std.proofs.Common.{◌+◌, ◌-◌, ◌*◌, ◌≤◌, length}
+use Rattle.std.proofs.Common.{◌+◌, ◌-◌, ◌*◌, length}
 use Rattle.goals.proofs.Going.{ClauseGoing, FormulaGoing}
 use Rattle.goals.proofs.reader.+bracket_clause_formula_item.Given as goal
 

@@ -1,10 +1,10 @@
-use Rattle.std.proofs.Common.{Some, sym, ap, ◌∙◌, arith}
+use Rattle.std.proofs.Common.{Some, ap, ◌∙◌, arith}
 use Rattle.goals.proofs.FillSteps.{fact-there, fact_past}
 use Rattle.goals.proofs.facts.FileFactsFactList.get.Goals as goal
 
 pub returns-then-index-from : goal.returns-then-index-from
 returns-then-index-from c =
-    ap Some c.fact-at.ensures ∙ fact-there c.args.self.now.file.now c.args.self.now.count c.args.self.now.start c.args.index (omega (arith, c.from.ensures))
+    ap Some c.fact_at.ensures ∙ fact-there c.args.self.now.file.now c.args.self.now.count c.args.self.now.start c.args.index (omega (arith, c.from.ensures))
 
 pub returns-else-index-from : goal.returns-else-index-from
 returns-else-index-from c =

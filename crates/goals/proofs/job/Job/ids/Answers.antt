@@ -1,4 +1,3 @@
-use Rattle.std.proofs.Common.{refl, ◌∙◌}
 use Rattle.goals.proofs.Jobs.{sound}
 use Rattle.goals.specs.JobView.{ids_of}
 use Rattle.goals.proofs.job.Job.ids.Goals as goal

@@ -1,4 +1,4 @@
-use Rattle.std.proofs.Common.{refl, ◌∙◌}
+use Rattle.std.proofs.Common.{◌∙◌}
 use Rattle.goals.proofs.Jobs.{sound}
 use Rattle.goals.specs.JobView.{nodes_of}
 use Rattle.goals.proofs.job.Job.node_count.Goals as goal

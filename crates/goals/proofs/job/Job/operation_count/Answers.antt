@@ -1,4 +1,4 @@
-use Rattle.std.proofs.Common.{refl, ◌∙◌}
+use Rattle.std.proofs.Common.{◌∙◌}
 use Rattle.goals.proofs.Jobs.{sound}
 use Rattle.goals.specs.JobView.{operations_in}
 use Rattle.goals.proofs.job.Job.operation_count.Goals as goal

@@ -1,4 +1,4 @@
-use Rattle.std.proofs.Common.{refl, ◌∙◌}
+use Rattle.std.proofs.Common.{refl}
 use Rattle.goals.proofs.Jobs.{sound}
 use Rattle.goals.specs.JobView.{root_of}
 use Rattle.goals.proofs.job.Job.root.Goals as goal

@@ -1,5 +1,5 @@
 -- The answer of progress, case by case, and the label that it leaves.
-use Rattle.std.proofs.Common.{◌≡◌, ℕ, ◌<◌, ◌≤◌, Bool, true, false, cond, not, ltb, List, is_ok, Ok, Err, Result, sym, refl, ap, ◌∙◌, le-ltb, lt-ltb}
+use Rattle.std.proofs.Common.{◌≡◌, ℕ, Bool, true, false, cond, not, ltb, List, is_ok, Ok, Err, Result, sym, refl, ap, le-ltb, lt-ltb}
 use Rattle.registers.specs.Meaning.{Meaning}
 use Rattle.goals.specs.declared.time.Span.{Span}
 use Rattle.goals.specs.declared.job.Job.{Job}

@@ -1,5 +1,5 @@
 -- A label by its table: it has no other parts, so the table tells its size, its state and whether a job knows it.
-use Rattle.std.proofs.Common.{◌≡◌, ℕ, zero, suc, ◌<◌, ◌≤◌, Bool, true, false, ◌&&◌, T, List, [], ◌∷◌, ◌++◌, length, get_or, sym, refl, ap, ◌∙◌, subst, inl, inr, arith, ltb-true}
+use Rattle.std.proofs.Common.{◌≡◌, ℕ, zero, suc, ◌<◌, Bool, true, false, T, List, [], ◌∷◌, ◌++◌, length, get_or, sym, refl, ap, ◌∙◌, subst, inl, inr, arith, ltb-true}
 use Rattle.std.proofs.lemmas.Bool.{and_parts, and_from, cases_Bool}
 use Rattle.goals.specs.declared.goal.Ends.{Ends}
 use Rattle.labels.specs.declared.binding.Binding.{Binding}
@@ -11,7 +11,7 @@ use Rattle.labels.specs.Size.{member, distinct, size}
 use Rattle.labels.specs.Work.{all_parts}
 use Rattle.labels.specs.Known.{passes}
 use Rattle.labels.specs.Table.{composed, label_at, rows, before, InOrder, NoTwins, OnlyParts}
-use Rattle.labels.specs.Growth.{Grew, Made, Over}
+use Rattle.labels.specs.Growth.{Made, Over}
 use Rattle.labels.specs.TableClaims.{Subset}
 use Rattle.labels.specs.LabelCalls.{state_of}
 use Rattle.labels.proofs.Logic.{to_T, is_true}

@@ -1,6 +1,6 @@
 -- Laws of labels for the crates above: what a job's calls are by the definitions of progress, work and idling,
 -- and that a job knows its opening label and what it progresses to. They cite these, and not the definitions' texts.
-use Rattle.std.proofs.Common.{◌≡◌, ℕ, Bool, true, false, cond, length, is_ok, refl}
+use Rattle.std.proofs.Common.{◌≡◌, Bool, true, false, cond, length, is_ok, refl}
 use Rattle.registers.specs.Meaning.{Meaning}
 use Rattle.goals.specs.declared.time.Span.{Span}
 use Rattle.goals.specs.declared.job.Job.{Job}

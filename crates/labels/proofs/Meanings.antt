@@ -1,12 +1,11 @@
 -- The theorems of progression and idling for the calls on a label.
-use Rattle.std.proofs.Common.{◌≡◌, ℕ, suc, ◌-◌, Bool, true, T, ◌↔◌, sym, ap, ◌∙◌, subst}
+use Rattle.std.proofs.Common.{◌≡◌, ℕ, suc, ◌-◌, Bool, true, T, ◌↔◌, sym, subst}
 use Rattle.registers.specs.Meaning.{Meaning}
 use Rattle.goals.specs.declared.time.Span.{Span}
 use Rattle.goals.specs.declared.job.Job.{Job}
 use Rattle.goals.specs.JobView.{ids_of, nodes_of, root_of, SoundJob}
-use Rattle.labels.specs.Facts.{Facts, unbound}
-use Rattle.labels.specs.Goals.{goal_of_node}
-use Rattle.labels.specs.Labels.{Label, waiting}
+use Rattle.labels.specs.Facts.{Facts}
+use Rattle.labels.specs.Labels.{Label}
 use Rattle.labels.specs.Progress.{progressed}
 use Rattle.labels.specs.Idling.{idling}
 use Rattle.labels.specs.Sequences.{copies, hourly}

@@ -1,5 +1,5 @@
 -- The walk over goal nodes, arm by arm: from what the calls answer to what the walk does.
-use Rattle.std.proofs.Common.{◌≡◌, ℕ, suc, ◌+◌, ◌<◌, ◌≤◌, Bool, true, false, ltb, List, [], ◌∷◌, ◌++◌, length, Ok, Err, Result, sym, refl, ap, ◌∙◌, subst, add-one, le-ltb, lt-ltb}
+use Rattle.std.proofs.Common.{◌≡◌, ℕ, ◌+◌, ◌<◌, ◌≤◌, Bool, true, false, ltb, List, [], ◌∷◌, ◌++◌, Err, Result, sym, refl, ap, ◌∙◌, subst, add-one, le-ltb, lt-ltb}
 use Rattle.goals.specs.declared.goal.Variable.{Variable}
 use Rattle.goals.specs.declared.goal.Term.{Term}
 use Rattle.goals.specs.declared.goal.Atom.{Atom}
@@ -12,7 +12,7 @@ use Rattle.labels.specs.declared.connective.Connective.TheVariants.{And as ByAnd
 use Rattle.labels.specs.declared.part.Part.{Part}
 use Rattle.labels.specs.Facts.{Facts, bind, fact, alike}
 use Rattle.labels.specs.Goals.{Goal, top, test, equal, neg, conj, disj, next, until, for_all, exists, with_ends, built}
-use Rattle.labels.specs.Labels.{Label, true_label, waiting}
+use Rattle.labels.specs.Labels.{Label, waiting}
 use Rattle.labels.specs.Joining.{negate, conjoin, disjoin}
 use Rattle.labels.specs.Connectives.{join_by, start_of}
 use Rattle.labels.specs.Progress.{rest, settled, progress}
@@ -21,7 +21,7 @@ use Rattle.labels.specs.Table.{label_at, InOrder}
 use Rattle.labels.specs.Growth.{Made, Over, Outcome, Added}
 use Rattle.labels.specs.Walks.{Walked, joined_to, results_to}
 use Rattle.labels.proofs.Growing.{stands}
-use Rattle.labels.proofs.Calls.{at_label, sub-append, sub_tail, sub_left, sub_right, sub_same, over-sub, over-after, after-join, until-first-over, until-rest-over, until-both-over, until-waits, until-second-over, until-ends, start_in, turn_none, turn_skip, turn_item-over, turn-join-over, turn_more, turns_end, turns_over}
+use Rattle.labels.proofs.Calls.{at_label, sub-append, sub_tail, sub_left, sub_right, sub_same, over-sub, over-after, until-first-over, until-rest-over, until-both-over, until-waits, until-second-over, until-ends, start_in, turn_none, turn_skip, turn_item-over, turn-join-over, turn_more, turns_end, turns_over}
 
 -- a call whose table has the same limit
 pub at-limit : {E : Type 0} {l m : ℕ} (t u : List Part) (q : Label) (more : List Label) (r : Result ℕ E) → l ≡ m →

@@ -1,4 +1,6 @@
 // Labels: what a goal still asks of the states to come, their progress by a step, and idling.
+#![tactic(auto)]
+
 pub mod binding;
 mod compact;
 mod compare;

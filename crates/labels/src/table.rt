@@ -1,6 +1,6 @@
 ghost use Rattle.std.specs.Prelude.{◌≡◌, ℕ, ◌<◌, ◌≤◌, true, false, [], ◌∷◌, length, IfOk, vec_len, vec_capacity, slice_index, slice_index_or};
 ghost use Rattle.labels.specs.declared.part.Part.TheVariants.{True};
-ghost use Rattle.labels.specs.Chains.{bucket as bucket_of, Latest, Linked, HeadsIn, HeadsOf, FallsIn, FallsOf};
+ghost use Rattle.labels.specs.Chains.{Latest, Linked, HeadsIn, HeadsOf, FallsIn, FallsOf};
 ghost use Rattle.labels.specs.Table.{composed, label_at, before, InOrder, NoTwins};
 ghost use Rattle.labels.specs.Growth.{Added};
 
@@ -68,15 +68,13 @@ impl Table {
         self.items[place]
     }
 
-    // Where the part stands, by the chain of its bucket, or the number of parts.
-    fn find(&self, part: Part, bucket: usize) -> usize
-        requires own { bucket ≡ bucket_of part }
-        requires bound { bucket < 1024 }
+    // Where the part stands, or the number of parts.
+    fn find(&self, part: Part) -> usize
         ensures within { result ≤ length self.now.items.items }
         ensures there { result < length self.now.items.items → slice_index_or self.now.items.items result True ≡ part }
         ensures none { length self.now.items.items ≤ result → (k : ℕ) → k < length self.now.items.items → slice_index_or self.now.items.items k True ≡ part → ⊥ }
     {
-        let mut at = self.heads[bucket];
+        let mut at = self.heads[hash(part)];
         while at > 0 {
             if same_part(self.items[at - 1], part) {
                 return at - 1;
@@ -93,18 +91,18 @@ impl Table {
         ensures outcome { Added self.old.limit self.old.items.items self.new.items.items (composed (label_at self.old.items.items) part) result }
     {
         let n = self.items.len();
-        let bucket = hash(part);
-        let at = self.find(part, bucket);
+        let at = self.find(part);
         if at < n {
             return Ok(at);
         }
         if n >= self.limit {
             return Err(Full);
         }
-        let last = self.heads[bucket];
+        let h = hash(part);
+        let last = self.heads[h];
         self.items.push_reserved(part);
         self.next.push_reserved(last);
-        self.heads[bucket] = n + 1;
+        self.heads[h] = n + 1;
         Ok(n)
     }
 

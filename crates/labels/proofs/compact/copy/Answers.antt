@@ -1,4 +1,4 @@
-use Rattle.std.proofs.Common.{◌≡◌, ℕ, ◌+◌, ◌<◌, ◌≤◌, Bool, true, false, List, [], ◌∷◌, length, get_or, set, vec_items, vec_len, Vec, sym, refl, ap, ◌∙◌, subst, arith}
+use Rattle.std.proofs.Common.{◌≡◌, ℕ, ◌+◌, ◌<◌, ◌≤◌, Bool, false, List, [], ◌∷◌, length, get_or, vec_items, vec_len, Vec, sym, refl, ap, ◌∙◌, subst, arith}
 use Rattle.std.specs.declared.alloc.Global.{Global}
 use Rattle.std.proofs.lemmas.List.{get_or_read}
 use Rattle.std.proofs.lemmas.Result.{err_from_is_err_and}
@@ -11,7 +11,7 @@ use Rattle.labels.specs.Marks.{kept, Copied}
 use Rattle.labels.proofs.Copies.{copy-none, copy-early, copy-label, copy-over, copy_more, copy_skip, copy-all}
 use Rattle.labels.proofs.Walking.{over-limit, stop}
 use Rattle.labels.proofs.compact.copy.Goals as goal
-use Rattle.labels.proofs.compact.copy.Goals.{then-index+in-ok-at, else-index}
+use Rattle.labels.proofs.compact.copy.Goals.{then-index+in_ok-at, else-index}
 
 pub loop-k-init : goal.loop-k-init
 loop-k-init c =
@@ -41,8 +41,8 @@ add-requires c =
     ap (before (length d)) c.moved-part.ensures
     ∙ copy-early t order root rl marks c.requires.marks to d k kr c.loop-k.invariant.3 (sym here ∙ c.if-index.true) c.part.result (sym c.part.ensures)
 
-pub returns-in-err-at : goal.returns-in-err-at
-returns-in-err-at c =
+pub returns-in_err-at : goal.returns-in_err-at
+returns-in_err-at c =
     let t : List Part = vec_items c.args.source.now.items in
     let order = c.args.source.now.order in
     let root : ℕ = c.args.root in
@@ -60,13 +60,13 @@ returns-in-err-at c =
     let is : composed (label_at d) c.moved-part.result ≡ label_at t k =
     ap (composed (label_at d)) c.moved-part.ensures
     ∙ copy-label t order root rl marks c.requires.marks to d k kr c.loop-k.invariant.3 taken c.part.result (sym c.part.ensures) in
-    let pr = err_from_is_err_and c.from-residual.result c.from-residual.ensures.1 in
+    let pr = err_from_is_err_and c.from_residual.result c.from_residual.ensures.1 in
     record {
       limit = c.add.ensures.limit ∙ c.loop-k.invariant.0;
       len = c.loop-k.invariant.1;
-      outcome = stop (vec_items c.add.new.self.items) (label_at t root) (label_at t root ∷ []) c.from-residual.result pr.0 pr.1
+      outcome = stop (vec_items c.add.new.self.items) (label_at t root) (label_at t root ∷ []) c.from_residual.result pr.0 pr.1
           (copy-over t order root rl marks c.requires.marks k taken c.loop-k.invariant.2
-          (subst (λ (l : Label). Over c.args.table.now.limit d (l ∷ [])) is (over-limit c.loop-k.invariant.0 c.in-err-at.ensures.outcome)));
+          (subst (λ (l : Label). Over c.args.table.now.limit d (l ∷ [])) is (over-limit c.loop-k.invariant.0 c.in_err-at.ensures.outcome)));
     }
 
 pub loop-k-preserved : goal.loop-k-preserved
@@ -91,15 +91,15 @@ loop-k-preserved c =
     (tb.limit ≡ c.args.table.now.limit) × (vec_len ts ≡ vec_len c.args.to.now)
     × Grew d₀ (vec_items tb.items) (kept t marks (k + 1)) × Copied t marks (vec_items ts) (vec_items tb.items) (k + 1) in
     elim c.if-index.branch [
-      | then-index+in-ok-at w ↦
+      | then-index+in_ok-at w ↦
           let taken = sym here ∙ w.if-index.true in
           let is : composed (label_at d) w.moved-part.result ≡ label_at t k =
           ap (composed (label_at d)) w.moved-part.ensures
           ∙ copy-label t order root rl marks c.requires.marks to d k kr c.loop-k.invariant.3 taken w.part.result (sym w.part.ensures) in
           let u : List Part = vec_items w.add.new.self.items in
-          let m : Made d u (label_at t k) (label_at t k ∷ []) w.in-ok-at.at =
-          subst (λ (l : Label). Made d u l (l ∷ []) w.in-ok-at.at) is w.in-ok-at.ensures.outcome in
-          let h = copy_more t order root rl marks c.requires.marks to k w.in-ok-at.at taken (omega arith) c.loop-k.invariant.2 c.loop-k.invariant.3 m in
+          let m : Made d u (label_at t k) (label_at t k ∷ []) w.in_ok-at.at =
+          subst (λ (l : Label). Made d u l (l ∷ []) w.in_ok-at.at) is w.in_ok-at.ensures.outcome in
+          let h = copy_more t order root rl marks c.requires.marks to k w.in_ok-at.at taken (omega arith) c.loop-k.invariant.2 c.loop-k.invariant.3 m in
           subst (λ (tb : Table). Goes tb c.if-index.to) (sym w.table-is)
           (subst (Goes w.add.new.self) (sym w.to-is) (w.add.ensures.limit ∙ c.loop-k.invariant.0, same, h.0, h.1))
       | else-index w ↦

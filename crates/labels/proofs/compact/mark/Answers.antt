@@ -33,8 +33,8 @@ loop-k-preserved-then-index c =
     let e : c.loop-k.k ≡ suc k = omega arith in
     let here : c.index.result.now ≡ get_or marks k false = get_or_read marks k c.index.result.now (omega arith) c.index.ensures false in (
       omega arith,
-      c.mark-own.ensures.len ∙ n,
-      subst (Marking t c.args.root k) (sym c.mark-own.ensures.marks)
+      c.mark_own.ensures.len ∙ n,
+      subst (Marking t c.args.root k) (sym c.mark_own.ensures.marks)
           (mark-more t c.args.source.now.order c.args.root w marks k (omega arith) (omega arith) (sym here ∙ c.if-index.true)
           c.part.result (sym c.part.ensures) (subst (λ (j : ℕ). Marking t c.args.root j marks) e c.loop-k.invariant.2)),
     )

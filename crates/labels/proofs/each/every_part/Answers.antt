@@ -20,8 +20,8 @@ loop-k-init g c =
     let order = c.args.source.now.order in
     (refl, refl, parts_none N S D nodes t order (vec_items c.args.table.now.items), λ j l. absurd (omega arith))
 
-pub returns-in-err-at : goal.returns-in-err-at
-returns-in-err-at g c =
+pub returns-in_err-at : goal.returns-in_err-at
+returns-in_err-at g c =
     let N : ℕ = ids_of c.args.job.now in
     let S : Facts = facts_of (g.R.Register.meaning c.args.register.now) in
     let D : ℕ = c.args.span.hours in
@@ -35,13 +35,13 @@ returns-in-err-at g c =
     let long : length t ≤ vec_len c.args.to.now = c.requires in
     let kept : vec_len c.loop-k.to ≡ vec_len c.args.to.now = c.loop-k.invariant.1 in
     let kl : k < length t = omega (arith, c.len-k-end.ensures, c.loop-k-test.true) in
-    let pr = err_from_is_err_and c.from-residual.result c.from-residual.ensures.1 in
+    let pr = err_from_is_err_and c.from_residual.result c.from_residual.ensures.1 in
     record {
-      limit = c.one-part.ensures.limit ∙ c.loop-k.invariant.0;
+      limit = c.one_part.ensures.limit ∙ c.loop-k.invariant.0;
       len = kept;
-      outcome = all_stop N S D nodes t to (vec_items c.one-part.new.table.items) c.from-residual.result pr.0 pr.1
+      outcome = all_stop N S D nodes t to (vec_items c.one_part.new.table.items) c.from_residual.result pr.0 pr.1
           (parts-over N S D nodes t order to d k kl c.loop-k.invariant.3 c.part.result (sym c.part.ensures) c.loop-k.invariant.2
-          (over-limit c.loop-k.invariant.0 c.in-err-at.ensures.outcome));
+          (over-limit c.loop-k.invariant.0 c.in_err-at.ensures.outcome));
     }
 
 pub loop-k-preserved : goal.loop-k-preserved
@@ -59,9 +59,9 @@ loop-k-preserved g c =
     let long : length t ≤ vec_len c.args.to.now = c.requires in
     let kept : vec_len c.loop-k.to ≡ vec_len c.args.to.now = c.loop-k.invariant.1 in
     let kl : k < length t = omega (arith, c.len-k-end.ensures, c.loop-k-test.true) in
-    let h = parts_more N S D nodes t order to d k kl c.loop-k.invariant.3 c.part.result (sym c.part.ensures) c.in-ok-at.at (omega arith)
-    c.loop-k.invariant.2 c.in-ok-at.ensures.outcome in
-    (c.one-part.ensures.limit ∙ c.loop-k.invariant.0, kept, h.0, h.1)
+    let h = parts_more N S D nodes t order to d k kl c.loop-k.invariant.3 c.part.result (sym c.part.ensures) c.in_ok-at.at (omega arith)
+    c.loop-k.invariant.2 c.in_ok-at.ensures.outcome in
+    (c.one_part.ensures.limit ∙ c.loop-k.invariant.0, kept, h.0, h.1)
 
 pub returns : goal.returns
 returns g c =

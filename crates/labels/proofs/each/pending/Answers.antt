@@ -1,10 +1,9 @@
-use Rattle.std.proofs.Common.{◌≡◌, ℕ, List, get_or, vec_items, sym, ap, ◌∙◌}
+use Rattle.std.proofs.Common.{ℕ, List, vec_items, sym, ap, ◌∙◌}
 use Rattle.goals.specs.declared.goal.Node.{Node}
-use Rattle.goals.specs.declared.goal.Node.TheVariants.{True, Until}
+use Rattle.goals.specs.declared.goal.Node.TheVariants.{Until}
 use Rattle.goals.specs.JobView.{ids_of, nodes_of}
-use Rattle.labels.specs.declared.part.Part.{Part}
 use Rattle.labels.specs.Facts.{Facts}
-use Rattle.labels.specs.Goals.{goal_of_node, built, with_ends}
+use Rattle.labels.specs.Goals.{goal_of_node, with_ends}
 use Rattle.labels.specs.Held.{facts_of}
 use Rattle.labels.proofs.Trees.{tree_of, tree-read}
 use Rattle.labels.proofs.Shapes.{at_wait}
@@ -17,7 +16,7 @@ returns-in-Until g c =
     let S : Facts = facts_of (g.R.Register.meaning c.args.register.now) in
     let nodes : List Node = nodes_of c.args.job.now in
     let k : ℕ = c.args.number in
-    let tree = tree-read nodes k (Until c.in-Until.field-0 c.in-Until.hold c.in-Until.reach) c.node-at.ensures.value c.node-at.ensures.below c.in-Until.is in
+    let tree = tree-read nodes k (Until c.in-Until.field-0 c.in-Until.hold c.in-Until.reach) c.node_ref_at.ensures.value c.node_ref_at.ensures.below c.in-Until.is in
     record {
       limit = c.until.ensures.limit;
       outcome = at-goal N S c.args.span.hours c.args.table.now.limit (vec_items c.args.table.now.items) (vec_items c.until.new.table.items)
@@ -25,17 +24,17 @@ returns-in-Until g c =
           (at_wait c.args.job.now (g.R.Register.meaning c.args.register.now) c.args.span c.args.table.now c.until.new.table c.args.binding c.until.result c.new-wait.ensures c.until.ensures.outcome);
     }
 
-pub returns-in-default : goal.returns-in-default
-returns-in-default g c =
+pub returns-in_default : goal.returns-in_default
+returns-in_default g c =
     let N : ℕ = ids_of c.args.job.now in
     let S : Facts = facts_of (g.R.Register.meaning c.args.register.now) in
     let nodes : List Node = nodes_of c.args.job.now in
     let k : ℕ = c.args.number in
-    let nd : Node = c.node-at.result.now in
-    let tree = tree_of nodes k nd (sym c.node-at.ensures.value) c.node-at.ensures.below in
+    let nd : Node = c.node_ref_at.result.now in
+    let tree = tree_of nodes k nd (sym c.node_ref_at.ensures.value) c.node_ref_at.ensures.below in
     record {
       limit = c.node.ensures.limit;
       outcome = at-goal N S c.args.span.hours c.args.table.now.limit (vec_items c.args.table.now.items) (vec_items c.node.new.table.items)
           c.args.binding c.node.result
-          (tree ∙ (with_other (goal_of_node nodes) k nd c.args.ends c.in-default.not-Until ∙ ap (with_ends c.args.ends) (sym tree))) c.node.ensures.outcome;
+          (tree ∙ (with_other (goal_of_node nodes) k nd c.args.ends c.in_default.not-Until ∙ ap (with_ends c.args.ends) (sym tree))) c.node.ensures.outcome;
     }

@@ -1,4 +1,4 @@
-use Rattle.std.proofs.Common.{◌≡◌, ℕ, ◌+◌, ◌*◌, false}
+use Rattle.std.proofs.Common.{◌≡◌, ◌+◌, ◌*◌, false}
 use Rattle.goals.specs.JobView.{ids_of, nodes_of}
 use Rattle.labels.specs.Facts.{bind, fact}
 use Rattle.labels.specs.Goals.{goal_of_node}

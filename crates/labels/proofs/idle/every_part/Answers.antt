@@ -1,4 +1,4 @@
-use Rattle.std.proofs.Common.{◌≡◌, ℕ, ◌<◌, ◌≤◌, Bool, true, false, List, length, get_or, set, vec_items, vec_len, sym, ap, ◌∙◌, arith}
+use Rattle.std.proofs.Common.{◌≡◌, ℕ, ◌<◌, ◌≤◌, Bool, false, List, length, get_or, set, vec_items, vec_len, sym, ap, ◌∙◌, arith}
 use native.Mathlib.Decide.{dec_lt}
 use Rattle.std.proofs.lemmas.List.{get_or-set_same, get_or-set_other}
 use Rattle.goals.specs.declared.goal.Node.{Node}
@@ -24,9 +24,9 @@ loop-k-preserved g c =
     let same : vec_len c.loop-k.gave ≡ vec_len c.args.gave.now = c.loop-k.invariant.0 in
     let room : length t ≤ vec_len c.args.gave.now = c.requires in
     let kl : k < length t = omega (arith, c.len-k-end.ensures, c.loop-k-test.true) in
-    let r : Bool = c.one-part-keeps.result in
+    let r : Bool = c.one_part-keeps.result in
     let is : r ≡ idling N S nodes (label_at t k) =
-    c.one-part-keeps.ensures
+    c.one_part-keeps.ensures
     ∙ part_idles-is N S nodes t l.table.order (λ x. get_or gave x false) k kl c.loop-k.invariant.1 c.part.result (sym c.part.ensures) in (
       same,
       λ j jl. elim (dec_lt j k) [

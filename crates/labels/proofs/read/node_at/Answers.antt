@@ -5,7 +5,7 @@ use Rattle.labels.proofs.read.node_at.Goals as goal
 pub returns-in-Some : goal.returns-in-Some
 returns-in-Some c =
     let h = c.in-Some.ensures in
-    let n = node-there (nodes_of c.args.job.now) c.args.number c.in-Some.node.now h.sound.rising h.value in
+    let n = node-there (nodes_of c.args.job.now) c.args.number c.in-Some.node h.sound.rising h.value in
     record { value = n.0; below = n.1 }
 
 pub returns-in-None : goal.returns-in-None

@@ -1,4 +1,4 @@
-use Rattle.std.proofs.Common.{◌≤◌, length, vec_items, vec_len, arith}
+use Rattle.std.proofs.Common.{vec_items, arith}
 use native.Mathlib.Decide.{dec_lt}
 use Rattle.std.proofs.lemmas.List.{get_or_past}
 use Rattle.labels.proofs.table.clear_heads.Goals as goal

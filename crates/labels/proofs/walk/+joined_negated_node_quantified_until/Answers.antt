@@ -1,15 +1,14 @@
-use Rattle.std.proofs.Common.{◌≡◌, ℕ, suc, ◌+◌, ◌<◌, ◌≤◌, Bool, true, false, eqb, List, [], ◌∷◌, ◌++◌, length, get_or, Ok, vec_items, Result, sym, refl, ap, ◌∙◌, subst, ap₂, arith}
+use Rattle.std.proofs.Common.{◌≡◌, ℕ, ◌+◌, ◌<◌, eqb, List, ◌∷◌, ◌++◌, Ok, vec_items, Result, sym, refl, ◌∙◌, subst, ap₂, arith}
 use Rattle.std.proofs.lemmas.Result.{err_from_is_err_and}
 use Rattle.goals.specs.declared.goal.Node.{Node}
 use Rattle.goals.specs.declared.goal.Node.TheVariants.{True, Test, Equal, Not, And, Or, Next, Until, ForAll, Exists}
 use Rattle.goals.specs.JobView.{ids_of, nodes_of}
-use Rattle.labels.specs.declared.connective.Connective.TheVariants.{And as ByAnd, Or as ByOr}
 use Rattle.labels.specs.declared.part.Part.{Part}
 use Rattle.labels.specs.declared.table.Table.{Table}
 use Rattle.labels.specs.declared.table.Full.{Full}
 use Rattle.labels.specs.declared.binding.Binding.{Binding}
-use Rattle.labels.specs.Facts.{Facts, fact}
-use Rattle.labels.specs.Goals.{Goal, neg, until, built, goal_of_node}
+use Rattle.labels.specs.Facts.{Facts}
+use Rattle.labels.specs.Goals.{Goal, until, goal_of_node}
 use Rattle.labels.specs.Joining.{negate}
 use Rattle.labels.specs.Connectives.{join_by}
 use Rattle.labels.specs.Progress.{progress}
@@ -22,11 +21,11 @@ use Rattle.labels.proofs.Shapes.{at_pair, at_wait, at-range}
 use Rattle.labels.proofs.Calls.{after-negate, after-join}
 use Rattle.labels.proofs.Walking.{at-limit, stop, left_over, right_over, at-goal, walk_top, walk-test, walk-equal, walk-next, walk-and, walk-or, walk-all, walk-exists, walk-not, not-over, hold_over, rest_over, both-over, waits, reach-over, reaches-it, begins, skips, item-over, join-over, joins, all_turns, start-over, turn_over}
 use Rattle.labels.proofs.walk.+joined_negated_node_quantified_until.Goals as goal
-use Rattle.labels.proofs.walk.+joined_negated_node_quantified_until.Goals.{quantified-then-is-fact+in-ok-p+in-ok-so-far-2, quantified-else-is-fact}
+use Rattle.labels.proofs.walk.+joined_negated_node_quantified_until.Goals.{quantified-then-is_fact+in_ok-p+in_ok-so_far-2, quantified-else-is_fact}
 
 -- the arms of a node: the limit is passed, or the place is told
-pub node-returns-in-err-settle : goal.node-returns-in-err-settle
-node-returns-in-err-settle g t c =
+pub node-returns-in_err-settle-in-True : goal.node-returns-in_err-settle-in-True
+node-returns-in_err-settle-in-True g t c =
     let N : ℕ = ids_of c.args.job.now in
     let S : Facts = facts_of (g.R.Register.meaning c.args.register.now) in
     let D : ℕ = c.args.span.hours in
@@ -35,19 +34,19 @@ node-returns-in-err-settle g t c =
     let T0 : List Part = vec_items c.args.table.now.items in
     let k : ℕ = c.args.number in
     let B : Binding = c.args.binding in
-    let tree = tree-read nodes k True c.node-at.ensures.value c.node-at.ensures.below c.in-True.is in
+    let tree = tree-read nodes k True c.node_ref_at.ensures.value c.node_ref_at.ensures.below c.in-True.is in
     let u : List Part = vec_items c.settle.new.self.items in
-    let r : Result ℕ Full = c.from-residual.result in
-    let pr = err_from_is_err_and r c.from-residual.ensures.1 in
+    let r : Result ℕ Full = c.from_residual.result in
+    let pr = err_from_is_err_and r c.from_residual.ensures.1 in
     record {
       limit = c.settle.ensures.limit;
       outcome = at-goal N S D L T0 u B r (sym tree)
           (walk_top N S D L T0 u k B r
-          (stop u _ _ r pr.0 pr.1 c.in-err-settle.ensures.outcome));
+          (stop u _ _ r pr.0 pr.1 c.in_err-settle-in-True.ensures.outcome));
     }
 
-pub node-returns-in-ok-settle : goal.node-returns-in-ok-settle
-node-returns-in-ok-settle g t c =
+pub node-returns-in_ok-settle-in-True : goal.node-returns-in_ok-settle-in-True
+node-returns-in_ok-settle-in-True g t c =
     let N : ℕ = ids_of c.args.job.now in
     let S : Facts = facts_of (g.R.Register.meaning c.args.register.now) in
     let D : ℕ = c.args.span.hours in
@@ -56,18 +55,18 @@ node-returns-in-ok-settle g t c =
     let T0 : List Part = vec_items c.args.table.now.items in
     let k : ℕ = c.args.number in
     let B : Binding = c.args.binding in
-    let tree = tree-read nodes k True c.node-at.ensures.value c.node-at.ensures.below c.in-True.is in
+    let tree = tree-read nodes k True c.node_ref_at.ensures.value c.node_ref_at.ensures.below c.in-True.is in
     let u : List Part = vec_items c.settle.new.self.items in
-    let r : Result ℕ Full = Ok c.in-ok-settle.field-0 in
+    let r : Result ℕ Full = Ok c.in_ok-settle-in-True.field-0 in
     record {
       limit = c.settle.ensures.limit;
       outcome = at-goal N S D L T0 u B r (sym tree)
           (walk_top N S D L T0 u k B r
-          c.in-ok-settle.ensures.outcome);
+          c.in_ok-settle-in-True.ensures.outcome);
     }
 
-pub node-returns-in-err-settle-2 : goal.node-returns-in-err-settle-2
-node-returns-in-err-settle-2 g t c =
+pub node-returns-in_err-settle-in-Test : goal.node-returns-in_err-settle-in-Test
+node-returns-in_err-settle-in-Test g t c =
     let N : ℕ = ids_of c.args.job.now in
     let S : Facts = facts_of (g.R.Register.meaning c.args.register.now) in
     let D : ℕ = c.args.span.hours in
@@ -76,19 +75,19 @@ node-returns-in-err-settle-2 g t c =
     let T0 : List Part = vec_items c.args.table.now.items in
     let k : ℕ = c.args.number in
     let B : Binding = c.args.binding in
-    let tree = tree-read nodes k (Test c.in-Test.atom) c.node-at.ensures.value c.node-at.ensures.below c.in-Test.is in
+    let tree = tree-read nodes k (Test c.in-Test.atom) c.node_ref_at.ensures.value c.node_ref_at.ensures.below c.in-Test.is in
     let u : List Part = vec_items c.settle-in-Test.new.self.items in
-    let r : Result ℕ Full = c.from-residual-in-err-settle-2.result in
-    let pr = err_from_is_err_and r c.from-residual-in-err-settle-2.ensures.1 in
+    let r : Result ℕ Full = c.from_residual-in_err-settle-in-Test.result in
+    let pr = err_from_is_err_and r c.from_residual-in_err-settle-in-Test.ensures.1 in
     record {
       limit = c.settle-in-Test.ensures.limit;
       outcome = at-goal N S D L T0 u B r (sym tree)
-          (walk-test N S D L T0 u k B r c.in-Test.atom c.is-fact.result c.is-fact.ensures
-          (stop u _ _ r pr.0 pr.1 c.in-err-settle-2.ensures.outcome));
+          (walk-test N S D L T0 u k B r c.in-Test.atom c.is_fact.result c.is_fact.ensures
+          (stop u _ _ r pr.0 pr.1 c.in_err-settle-in-Test.ensures.outcome));
     }
 
-pub node-returns-in-ok-settle-2 : goal.node-returns-in-ok-settle-2
-node-returns-in-ok-settle-2 g t c =
+pub node-returns-in_ok-settle-in-Test : goal.node-returns-in_ok-settle-in-Test
+node-returns-in_ok-settle-in-Test g t c =
     let N : ℕ = ids_of c.args.job.now in
     let S : Facts = facts_of (g.R.Register.meaning c.args.register.now) in
     let D : ℕ = c.args.span.hours in
@@ -97,18 +96,18 @@ node-returns-in-ok-settle-2 g t c =
     let T0 : List Part = vec_items c.args.table.now.items in
     let k : ℕ = c.args.number in
     let B : Binding = c.args.binding in
-    let tree = tree-read nodes k (Test c.in-Test.atom) c.node-at.ensures.value c.node-at.ensures.below c.in-Test.is in
+    let tree = tree-read nodes k (Test c.in-Test.atom) c.node_ref_at.ensures.value c.node_ref_at.ensures.below c.in-Test.is in
     let u : List Part = vec_items c.settle-in-Test.new.self.items in
-    let r : Result ℕ Full = Ok c.in-ok-settle-2.field-0 in
+    let r : Result ℕ Full = Ok c.in_ok-settle-in-Test.field-0 in
     record {
       limit = c.settle-in-Test.ensures.limit;
       outcome = at-goal N S D L T0 u B r (sym tree)
-          (walk-test N S D L T0 u k B r c.in-Test.atom c.is-fact.result c.is-fact.ensures
-          c.in-ok-settle-2.ensures.outcome);
+          (walk-test N S D L T0 u k B r c.in-Test.atom c.is_fact.result c.is_fact.ensures
+          c.in_ok-settle-in-Test.ensures.outcome);
     }
 
-pub node-returns-in-err-settle-3 : goal.node-returns-in-err-settle-3
-node-returns-in-err-settle-3 g t c =
+pub node-returns-in_err-settle-in-Equal : goal.node-returns-in_err-settle-in-Equal
+node-returns-in_err-settle-in-Equal g t c =
     let N : ℕ = ids_of c.args.job.now in
     let S : Facts = facts_of (g.R.Register.meaning c.args.register.now) in
     let D : ℕ = c.args.span.hours in
@@ -117,19 +116,19 @@ node-returns-in-err-settle-3 g t c =
     let T0 : List Part = vec_items c.args.table.now.items in
     let k : ℕ = c.args.number in
     let B : Binding = c.args.binding in
-    let tree = tree-read nodes k (Equal c.in-Equal.left c.in-Equal.right) c.node-at.ensures.value c.node-at.ensures.below c.in-Equal.is in
+    let tree = tree-read nodes k (Equal c.in-Equal.left c.in-Equal.right) c.node_ref_at.ensures.value c.node_ref_at.ensures.below c.in-Equal.is in
     let u : List Part = vec_items c.settle-in-Equal.new.self.items in
-    let r : Result ℕ Full = c.from-residual-in-err-settle-3.result in
-    let pr = err_from_is_err_and r c.from-residual-in-err-settle-3.ensures.1 in
+    let r : Result ℕ Full = c.from_residual-in_err-settle-in-Equal.result in
+    let pr = err_from_is_err_and r c.from_residual-in_err-settle-in-Equal.ensures.1 in
     record {
       limit = c.settle-in-Equal.ensures.limit;
       outcome = at-goal N S D L T0 u B r (sym tree)
           (walk-equal N S D L T0 u k B r c.in-Equal.left c.in-Equal.right (eqb c.value.result c.value-in-Equal.result) (ap₂ eqb c.value.ensures c.value-in-Equal.ensures)
-          (stop u _ _ r pr.0 pr.1 c.in-err-settle-3.ensures.outcome));
+          (stop u _ _ r pr.0 pr.1 c.in_err-settle-in-Equal.ensures.outcome));
     }
 
-pub node-returns-in-ok-settle-3 : goal.node-returns-in-ok-settle-3
-node-returns-in-ok-settle-3 g t c =
+pub node-returns-in_ok-settle-in-Equal : goal.node-returns-in_ok-settle-in-Equal
+node-returns-in_ok-settle-in-Equal g t c =
     let N : ℕ = ids_of c.args.job.now in
     let S : Facts = facts_of (g.R.Register.meaning c.args.register.now) in
     let D : ℕ = c.args.span.hours in
@@ -138,18 +137,18 @@ node-returns-in-ok-settle-3 g t c =
     let T0 : List Part = vec_items c.args.table.now.items in
     let k : ℕ = c.args.number in
     let B : Binding = c.args.binding in
-    let tree = tree-read nodes k (Equal c.in-Equal.left c.in-Equal.right) c.node-at.ensures.value c.node-at.ensures.below c.in-Equal.is in
+    let tree = tree-read nodes k (Equal c.in-Equal.left c.in-Equal.right) c.node_ref_at.ensures.value c.node_ref_at.ensures.below c.in-Equal.is in
     let u : List Part = vec_items c.settle-in-Equal.new.self.items in
-    let r : Result ℕ Full = Ok c.in-ok-settle-3.field-0 in
+    let r : Result ℕ Full = Ok c.in_ok-settle-in-Equal.field-0 in
     record {
       limit = c.settle-in-Equal.ensures.limit;
       outcome = at-goal N S D L T0 u B r (sym tree)
           (walk-equal N S D L T0 u k B r c.in-Equal.left c.in-Equal.right (eqb c.value.result c.value-in-Equal.result) (ap₂ eqb c.value.ensures c.value-in-Equal.ensures)
-          c.in-ok-settle-3.ensures.outcome);
+          c.in_ok-settle-in-Equal.ensures.outcome);
     }
 
-pub node-returns-in-err-negated : goal.node-returns-in-err-negated
-node-returns-in-err-negated g t c =
+pub node-returns-in_err-negated-in-Not : goal.node-returns-in_err-negated-in-Not
+node-returns-in_err-negated-in-Not g t c =
     let N : ℕ = ids_of c.args.job.now in
     let S : Facts = facts_of (g.R.Register.meaning c.args.register.now) in
     let D : ℕ = c.args.span.hours in
@@ -158,19 +157,19 @@ node-returns-in-err-negated g t c =
     let T0 : List Part = vec_items c.args.table.now.items in
     let k : ℕ = c.args.number in
     let B : Binding = c.args.binding in
-    let tree = tree-read nodes k (Not c.in-Not.x) c.node-at.ensures.value c.node-at.ensures.below c.in-Not.is in
+    let tree = tree-read nodes k (Not c.in-Not.x) c.node_ref_at.ensures.value c.node_ref_at.ensures.below c.in-Not.is in
     let u : List Part = vec_items c.negated.new.table.items in
-    let r : Result ℕ Full = c.from-residual-in-err-negated.result in
-    let pr = err_from_is_err_and r c.from-residual-in-err-negated.ensures.1 in
+    let r : Result ℕ Full = c.from_residual-in_err-negated-in-Not.result in
+    let pr = err_from_is_err_and r c.from_residual-in_err-negated-in-Not.ensures.1 in
     record {
       limit = c.negated.ensures.limit;
       outcome = at-goal N S D L T0 u B r (sym tree)
           (walk-not N S D L T0 u k B r (goal_of_node nodes c.in-Not.x)
-          (stop u _ _ r pr.0 pr.1 c.in-err-negated.ensures.outcome));
+          (stop u _ _ r pr.0 pr.1 c.in_err-negated-in-Not.ensures.outcome));
     }
 
-pub node-returns-in-ok-negated : goal.node-returns-in-ok-negated
-node-returns-in-ok-negated g t c =
+pub node-returns-in_ok-negated-in-Not : goal.node-returns-in_ok-negated-in-Not
+node-returns-in_ok-negated-in-Not g t c =
     let N : ℕ = ids_of c.args.job.now in
     let S : Facts = facts_of (g.R.Register.meaning c.args.register.now) in
     let D : ℕ = c.args.span.hours in
@@ -179,18 +178,18 @@ node-returns-in-ok-negated g t c =
     let T0 : List Part = vec_items c.args.table.now.items in
     let k : ℕ = c.args.number in
     let B : Binding = c.args.binding in
-    let tree = tree-read nodes k (Not c.in-Not.x) c.node-at.ensures.value c.node-at.ensures.below c.in-Not.is in
+    let tree = tree-read nodes k (Not c.in-Not.x) c.node_ref_at.ensures.value c.node_ref_at.ensures.below c.in-Not.is in
     let u : List Part = vec_items c.negated.new.table.items in
-    let r : Result ℕ Full = Ok c.in-ok-negated.field-0 in
+    let r : Result ℕ Full = Ok c.in_ok-negated-in-Not.field-0 in
     record {
       limit = c.negated.ensures.limit;
       outcome = at-goal N S D L T0 u B r (sym tree)
           (walk-not N S D L T0 u k B r (goal_of_node nodes c.in-Not.x)
-          c.in-ok-negated.ensures.outcome);
+          c.in_ok-negated-in-Not.ensures.outcome);
     }
 
-pub node-returns-in-err-joined : goal.node-returns-in-err-joined
-node-returns-in-err-joined g t c =
+pub node-returns-in_err-joined-in-And : goal.node-returns-in_err-joined-in-And
+node-returns-in_err-joined-in-And g t c =
     let N : ℕ = ids_of c.args.job.now in
     let S : Facts = facts_of (g.R.Register.meaning c.args.register.now) in
     let D : ℕ = c.args.span.hours in
@@ -199,19 +198,19 @@ node-returns-in-err-joined g t c =
     let T0 : List Part = vec_items c.args.table.now.items in
     let k : ℕ = c.args.number in
     let B : Binding = c.args.binding in
-    let tree = tree-read nodes k (And c.in-And.left c.in-And.right) c.node-at.ensures.value c.node-at.ensures.below c.in-And.is in
+    let tree = tree-read nodes k (And c.in-And.left c.in-And.right) c.node_ref_at.ensures.value c.node_ref_at.ensures.below c.in-And.is in
     let u : List Part = vec_items c.joined.new.table.items in
-    let r : Result ℕ Full = c.from-residual-in-err-joined.result in
-    let pr = err_from_is_err_and r c.from-residual-in-err-joined.ensures.1 in
+    let r : Result ℕ Full = c.from_residual-in_err-joined-in-And.result in
+    let pr = err_from_is_err_and r c.from_residual-in_err-joined-in-And.ensures.1 in
     record {
       limit = c.joined.ensures.limit;
       outcome = at-goal N S D L T0 u B r (sym tree)
           (walk-and N S D L T0 u k B r (goal_of_node nodes c.in-And.left) (goal_of_node nodes c.in-And.right)
-          (at_pair c.args.job.now (g.R.Register.meaning c.args.register.now) c.args.span c.args.table.now c.joined.new.table B r c.new-pair.ensures (stop u _ _ r pr.0 pr.1 c.in-err-joined.ensures.outcome)));
+          (at_pair c.args.job.now (g.R.Register.meaning c.args.register.now) c.args.span c.args.table.now c.joined.new.table B r c.new-pair.ensures (stop u _ _ r pr.0 pr.1 c.in_err-joined-in-And.ensures.outcome)));
     }
 
-pub node-returns-in-ok-joined : goal.node-returns-in-ok-joined
-node-returns-in-ok-joined g t c =
+pub node-returns-in_ok-joined-in-And : goal.node-returns-in_ok-joined-in-And
+node-returns-in_ok-joined-in-And g t c =
     let N : ℕ = ids_of c.args.job.now in
     let S : Facts = facts_of (g.R.Register.meaning c.args.register.now) in
     let D : ℕ = c.args.span.hours in
@@ -220,18 +219,18 @@ node-returns-in-ok-joined g t c =
     let T0 : List Part = vec_items c.args.table.now.items in
     let k : ℕ = c.args.number in
     let B : Binding = c.args.binding in
-    let tree = tree-read nodes k (And c.in-And.left c.in-And.right) c.node-at.ensures.value c.node-at.ensures.below c.in-And.is in
+    let tree = tree-read nodes k (And c.in-And.left c.in-And.right) c.node_ref_at.ensures.value c.node_ref_at.ensures.below c.in-And.is in
     let u : List Part = vec_items c.joined.new.table.items in
-    let r : Result ℕ Full = Ok c.in-ok-joined.field-0 in
+    let r : Result ℕ Full = Ok c.in_ok-joined-in-And.field-0 in
     record {
       limit = c.joined.ensures.limit;
       outcome = at-goal N S D L T0 u B r (sym tree)
           (walk-and N S D L T0 u k B r (goal_of_node nodes c.in-And.left) (goal_of_node nodes c.in-And.right)
-          (at_pair c.args.job.now (g.R.Register.meaning c.args.register.now) c.args.span c.args.table.now c.joined.new.table B r c.new-pair.ensures c.in-ok-joined.ensures.outcome));
+          (at_pair c.args.job.now (g.R.Register.meaning c.args.register.now) c.args.span c.args.table.now c.joined.new.table B r c.new-pair.ensures c.in_ok-joined-in-And.ensures.outcome));
     }
 
-pub node-returns-in-err-joined-2 : goal.node-returns-in-err-joined-2
-node-returns-in-err-joined-2 g t c =
+pub node-returns-in_err-joined-in-Or : goal.node-returns-in_err-joined-in-Or
+node-returns-in_err-joined-in-Or g t c =
     let N : ℕ = ids_of c.args.job.now in
     let S : Facts = facts_of (g.R.Register.meaning c.args.register.now) in
     let D : ℕ = c.args.span.hours in
@@ -240,19 +239,19 @@ node-returns-in-err-joined-2 g t c =
     let T0 : List Part = vec_items c.args.table.now.items in
     let k : ℕ = c.args.number in
     let B : Binding = c.args.binding in
-    let tree = tree-read nodes k (Or c.in-Or.left c.in-Or.right) c.node-at.ensures.value c.node-at.ensures.below c.in-Or.is in
+    let tree = tree-read nodes k (Or c.in-Or.left c.in-Or.right) c.node_ref_at.ensures.value c.node_ref_at.ensures.below c.in-Or.is in
     let u : List Part = vec_items c.joined-in-Or.new.table.items in
-    let r : Result ℕ Full = c.from-residual-in-err-joined-2.result in
-    let pr = err_from_is_err_and r c.from-residual-in-err-joined-2.ensures.1 in
+    let r : Result ℕ Full = c.from_residual-in_err-joined-in-Or.result in
+    let pr = err_from_is_err_and r c.from_residual-in_err-joined-in-Or.ensures.1 in
     record {
       limit = c.joined-in-Or.ensures.limit;
       outcome = at-goal N S D L T0 u B r (sym tree)
           (walk-or N S D L T0 u k B r (goal_of_node nodes c.in-Or.left) (goal_of_node nodes c.in-Or.right)
-          (at_pair c.args.job.now (g.R.Register.meaning c.args.register.now) c.args.span c.args.table.now c.joined-in-Or.new.table B r c.new-pair-in-Or.ensures (stop u _ _ r pr.0 pr.1 c.in-err-joined-2.ensures.outcome)));
+          (at_pair c.args.job.now (g.R.Register.meaning c.args.register.now) c.args.span c.args.table.now c.joined-in-Or.new.table B r c.new-pair-in-Or.ensures (stop u _ _ r pr.0 pr.1 c.in_err-joined-in-Or.ensures.outcome)));
     }
 
-pub node-returns-in-ok-joined-2 : goal.node-returns-in-ok-joined-2
-node-returns-in-ok-joined-2 g t c =
+pub node-returns-in_ok-joined-in-Or : goal.node-returns-in_ok-joined-in-Or
+node-returns-in_ok-joined-in-Or g t c =
     let N : ℕ = ids_of c.args.job.now in
     let S : Facts = facts_of (g.R.Register.meaning c.args.register.now) in
     let D : ℕ = c.args.span.hours in
@@ -261,18 +260,18 @@ node-returns-in-ok-joined-2 g t c =
     let T0 : List Part = vec_items c.args.table.now.items in
     let k : ℕ = c.args.number in
     let B : Binding = c.args.binding in
-    let tree = tree-read nodes k (Or c.in-Or.left c.in-Or.right) c.node-at.ensures.value c.node-at.ensures.below c.in-Or.is in
+    let tree = tree-read nodes k (Or c.in-Or.left c.in-Or.right) c.node_ref_at.ensures.value c.node_ref_at.ensures.below c.in-Or.is in
     let u : List Part = vec_items c.joined-in-Or.new.table.items in
-    let r : Result ℕ Full = Ok c.in-ok-joined-2.field-0 in
+    let r : Result ℕ Full = Ok c.in_ok-joined-in-Or.field-0 in
     record {
       limit = c.joined-in-Or.ensures.limit;
       outcome = at-goal N S D L T0 u B r (sym tree)
           (walk-or N S D L T0 u k B r (goal_of_node nodes c.in-Or.left) (goal_of_node nodes c.in-Or.right)
-          (at_pair c.args.job.now (g.R.Register.meaning c.args.register.now) c.args.span c.args.table.now c.joined-in-Or.new.table B r c.new-pair-in-Or.ensures c.in-ok-joined-2.ensures.outcome));
+          (at_pair c.args.job.now (g.R.Register.meaning c.args.register.now) c.args.span c.args.table.now c.joined-in-Or.new.table B r c.new-pair-in-Or.ensures c.in_ok-joined-in-Or.ensures.outcome));
     }
 
-pub node-returns-in-err-waiting : goal.node-returns-in-err-waiting
-node-returns-in-err-waiting g t c =
+pub node-returns-in_err-waiting-in-Next : goal.node-returns-in_err-waiting-in-Next
+node-returns-in_err-waiting-in-Next g t c =
     let N : ℕ = ids_of c.args.job.now in
     let S : Facts = facts_of (g.R.Register.meaning c.args.register.now) in
     let D : ℕ = c.args.span.hours in
@@ -281,19 +280,19 @@ node-returns-in-err-waiting g t c =
     let T0 : List Part = vec_items c.args.table.now.items in
     let k : ℕ = c.args.number in
     let B : Binding = c.args.binding in
-    let tree = tree-read nodes k (Next c.in-Next.x) c.node-at.ensures.value c.node-at.ensures.below c.in-Next.is in
+    let tree = tree-read nodes k (Next c.in-Next.x) c.node_ref_at.ensures.value c.node_ref_at.ensures.below c.in-Next.is in
     let u : List Part = vec_items c.waiting.new.table.items in
-    let r : Result ℕ Full = c.from-residual-in-err-waiting.result in
-    let pr = err_from_is_err_and r c.from-residual-in-err-waiting.ensures.1 in
+    let r : Result ℕ Full = c.from_residual-in_err-waiting-in-Next.result in
+    let pr = err_from_is_err_and r c.from_residual-in_err-waiting-in-Next.ensures.1 in
     record {
       limit = c.waiting.ensures.limit;
       outcome = at-goal N S D L T0 u B r (sym tree)
           (walk-next N S D L T0 u k B r (goal_of_node nodes c.in-Next.x)
-          (stop u _ _ r pr.0 pr.1 c.in-err-waiting.ensures.outcome));
+          (stop u _ _ r pr.0 pr.1 c.in_err-waiting-in-Next.ensures.outcome));
     }
 
-pub node-returns-in-ok-waiting : goal.node-returns-in-ok-waiting
-node-returns-in-ok-waiting g t c =
+pub node-returns-in_ok-waiting-in-Next : goal.node-returns-in_ok-waiting-in-Next
+node-returns-in_ok-waiting-in-Next g t c =
     let N : ℕ = ids_of c.args.job.now in
     let S : Facts = facts_of (g.R.Register.meaning c.args.register.now) in
     let D : ℕ = c.args.span.hours in
@@ -302,18 +301,18 @@ node-returns-in-ok-waiting g t c =
     let T0 : List Part = vec_items c.args.table.now.items in
     let k : ℕ = c.args.number in
     let B : Binding = c.args.binding in
-    let tree = tree-read nodes k (Next c.in-Next.x) c.node-at.ensures.value c.node-at.ensures.below c.in-Next.is in
+    let tree = tree-read nodes k (Next c.in-Next.x) c.node_ref_at.ensures.value c.node_ref_at.ensures.below c.in-Next.is in
     let u : List Part = vec_items c.waiting.new.table.items in
-    let r : Result ℕ Full = Ok c.in-ok-waiting.field-0 in
+    let r : Result ℕ Full = Ok c.in_ok-waiting-in-Next.field-0 in
     record {
       limit = c.waiting.ensures.limit;
       outcome = at-goal N S D L T0 u B r (sym tree)
           (walk-next N S D L T0 u k B r (goal_of_node nodes c.in-Next.x)
-          c.in-ok-waiting.ensures.outcome);
+          c.in_ok-waiting-in-Next.ensures.outcome);
     }
 
-pub node-returns-in-err-until : goal.node-returns-in-err-until
-node-returns-in-err-until g t c =
+pub node-returns-in_err-until-in-Until : goal.node-returns-in_err-until-in-Until
+node-returns-in_err-until-in-Until g t c =
     let N : ℕ = ids_of c.args.job.now in
     let S : Facts = facts_of (g.R.Register.meaning c.args.register.now) in
     let D : ℕ = c.args.span.hours in
@@ -322,18 +321,18 @@ node-returns-in-err-until g t c =
     let T0 : List Part = vec_items c.args.table.now.items in
     let k : ℕ = c.args.number in
     let B : Binding = c.args.binding in
-    let tree = tree-read nodes k (Until c.in-Until.ends c.in-Until.hold c.in-Until.reach) c.node-at.ensures.value c.node-at.ensures.below c.in-Until.is in
+    let tree = tree-read nodes k (Until c.in-Until.ends c.in-Until.hold c.in-Until.reach) c.node_ref_at.ensures.value c.node_ref_at.ensures.below c.in-Until.is in
     let u : List Part = vec_items c.until.new.table.items in
-    let r : Result ℕ Full = c.from-residual-in-err-until.result in
-    let pr = err_from_is_err_and r c.from-residual-in-err-until.ensures.1 in
+    let r : Result ℕ Full = c.from_residual-in_err-until-in-Until.result in
+    let pr = err_from_is_err_and r c.from_residual-in_err-until-in-Until.ensures.1 in
     record {
       limit = c.until.ensures.limit;
       outcome = at-goal N S D L T0 u B r (sym tree)
-          (at_wait c.args.job.now (g.R.Register.meaning c.args.register.now) c.args.span c.args.table.now c.until.new.table B r c.new-wait.ensures (stop u _ _ r pr.0 pr.1 c.in-err-until.ensures.outcome));
+          (at_wait c.args.job.now (g.R.Register.meaning c.args.register.now) c.args.span c.args.table.now c.until.new.table B r c.new-wait.ensures (stop u _ _ r pr.0 pr.1 c.in_err-until-in-Until.ensures.outcome));
     }
 
-pub node-returns-in-ok-until : goal.node-returns-in-ok-until
-node-returns-in-ok-until g t c =
+pub node-returns-in_ok-until-in-Until : goal.node-returns-in_ok-until-in-Until
+node-returns-in_ok-until-in-Until g t c =
     let N : ℕ = ids_of c.args.job.now in
     let S : Facts = facts_of (g.R.Register.meaning c.args.register.now) in
     let D : ℕ = c.args.span.hours in
@@ -342,17 +341,17 @@ node-returns-in-ok-until g t c =
     let T0 : List Part = vec_items c.args.table.now.items in
     let k : ℕ = c.args.number in
     let B : Binding = c.args.binding in
-    let tree = tree-read nodes k (Until c.in-Until.ends c.in-Until.hold c.in-Until.reach) c.node-at.ensures.value c.node-at.ensures.below c.in-Until.is in
+    let tree = tree-read nodes k (Until c.in-Until.ends c.in-Until.hold c.in-Until.reach) c.node_ref_at.ensures.value c.node_ref_at.ensures.below c.in-Until.is in
     let u : List Part = vec_items c.until.new.table.items in
-    let r : Result ℕ Full = Ok c.in-ok-until.field-0 in
+    let r : Result ℕ Full = Ok c.in_ok-until-in-Until.field-0 in
     record {
       limit = c.until.ensures.limit;
       outcome = at-goal N S D L T0 u B r (sym tree)
-          (at_wait c.args.job.now (g.R.Register.meaning c.args.register.now) c.args.span c.args.table.now c.until.new.table B r c.new-wait.ensures c.in-ok-until.ensures.outcome);
+          (at_wait c.args.job.now (g.R.Register.meaning c.args.register.now) c.args.span c.args.table.now c.until.new.table B r c.new-wait.ensures c.in_ok-until-in-Until.ensures.outcome);
     }
 
-pub node-returns-in-err-quantified : goal.node-returns-in-err-quantified
-node-returns-in-err-quantified g t c =
+pub node-returns-in_err-quantified-in-ForAll : goal.node-returns-in_err-quantified-in-ForAll
+node-returns-in_err-quantified-in-ForAll g t c =
     let N : ℕ = ids_of c.args.job.now in
     let S : Facts = facts_of (g.R.Register.meaning c.args.register.now) in
     let D : ℕ = c.args.span.hours in
@@ -361,19 +360,19 @@ node-returns-in-err-quantified g t c =
     let T0 : List Part = vec_items c.args.table.now.items in
     let k : ℕ = c.args.number in
     let B : Binding = c.args.binding in
-    let tree = tree-read nodes k (ForAll c.in-ForAll.variable c.in-ForAll.bound c.in-ForAll.body) c.node-at.ensures.value c.node-at.ensures.below c.in-ForAll.is in
+    let tree = tree-read nodes k (ForAll c.in-ForAll.variable c.in-ForAll.bound c.in-ForAll.body) c.node_ref_at.ensures.value c.node_ref_at.ensures.below c.in-ForAll.is in
     let u : List Part = vec_items c.quantified.new.table.items in
-    let r : Result ℕ Full = c.from-residual-in-err-quantified.result in
-    let pr = err_from_is_err_and r c.from-residual-in-err-quantified.ensures.1 in
+    let r : Result ℕ Full = c.from_residual-in_err-quantified-in-ForAll.result in
+    let pr = err_from_is_err_and r c.from_residual-in_err-quantified-in-ForAll.ensures.1 in
     record {
       limit = c.quantified.ensures.limit;
       outcome = at-goal N S D L T0 u B r (sym tree)
           (walk-all N S D L T0 u k B r c.in-ForAll.variable c.in-ForAll.bound (goal_of_node nodes c.in-ForAll.body)
-          (at-range c.args.job.now (g.R.Register.meaning c.args.register.now) c.args.span c.args.table.now c.quantified.new.table B r c.new-range.ensures (stop u _ _ r pr.0 pr.1 c.in-err-quantified.ensures.outcome)));
+          (at-range c.args.job.now (g.R.Register.meaning c.args.register.now) c.args.span c.args.table.now c.quantified.new.table B r c.new-range.ensures (stop u _ _ r pr.0 pr.1 c.in_err-quantified-in-ForAll.ensures.outcome)));
     }
 
-pub node-returns-in-ok-quantified : goal.node-returns-in-ok-quantified
-node-returns-in-ok-quantified g t c =
+pub node-returns-in_ok-quantified-in-ForAll : goal.node-returns-in_ok-quantified-in-ForAll
+node-returns-in_ok-quantified-in-ForAll g t c =
     let N : ℕ = ids_of c.args.job.now in
     let S : Facts = facts_of (g.R.Register.meaning c.args.register.now) in
     let D : ℕ = c.args.span.hours in
@@ -382,18 +381,18 @@ node-returns-in-ok-quantified g t c =
     let T0 : List Part = vec_items c.args.table.now.items in
     let k : ℕ = c.args.number in
     let B : Binding = c.args.binding in
-    let tree = tree-read nodes k (ForAll c.in-ForAll.variable c.in-ForAll.bound c.in-ForAll.body) c.node-at.ensures.value c.node-at.ensures.below c.in-ForAll.is in
+    let tree = tree-read nodes k (ForAll c.in-ForAll.variable c.in-ForAll.bound c.in-ForAll.body) c.node_ref_at.ensures.value c.node_ref_at.ensures.below c.in-ForAll.is in
     let u : List Part = vec_items c.quantified.new.table.items in
-    let r : Result ℕ Full = Ok c.in-ok-quantified.field-0 in
+    let r : Result ℕ Full = Ok c.in_ok-quantified-in-ForAll.field-0 in
     record {
       limit = c.quantified.ensures.limit;
       outcome = at-goal N S D L T0 u B r (sym tree)
           (walk-all N S D L T0 u k B r c.in-ForAll.variable c.in-ForAll.bound (goal_of_node nodes c.in-ForAll.body)
-          (at-range c.args.job.now (g.R.Register.meaning c.args.register.now) c.args.span c.args.table.now c.quantified.new.table B r c.new-range.ensures c.in-ok-quantified.ensures.outcome));
+          (at-range c.args.job.now (g.R.Register.meaning c.args.register.now) c.args.span c.args.table.now c.quantified.new.table B r c.new-range.ensures c.in_ok-quantified-in-ForAll.ensures.outcome));
     }
 
-pub node-returns-in-err-quantified-2 : goal.node-returns-in-err-quantified-2
-node-returns-in-err-quantified-2 g t c =
+pub node-returns-in_err-quantified-in-Exists : goal.node-returns-in_err-quantified-in-Exists
+node-returns-in_err-quantified-in-Exists g t c =
     let N : ℕ = ids_of c.args.job.now in
     let S : Facts = facts_of (g.R.Register.meaning c.args.register.now) in
     let D : ℕ = c.args.span.hours in
@@ -402,19 +401,19 @@ node-returns-in-err-quantified-2 g t c =
     let T0 : List Part = vec_items c.args.table.now.items in
     let k : ℕ = c.args.number in
     let B : Binding = c.args.binding in
-    let tree = tree-read nodes k (Exists c.in-Exists.variable c.in-Exists.bound c.in-Exists.body) c.node-at.ensures.value c.node-at.ensures.below c.in-Exists.is in
+    let tree = tree-read nodes k (Exists c.in-Exists.variable c.in-Exists.bound c.in-Exists.body) c.node_ref_at.ensures.value c.node_ref_at.ensures.below c.in-Exists.is in
     let u : List Part = vec_items c.quantified-in-Exists.new.table.items in
-    let r : Result ℕ Full = c.from-residual-in-err-quantified-2.result in
-    let pr = err_from_is_err_and r c.from-residual-in-err-quantified-2.ensures.1 in
+    let r : Result ℕ Full = c.from_residual-in_err-quantified-in-Exists.result in
+    let pr = err_from_is_err_and r c.from_residual-in_err-quantified-in-Exists.ensures.1 in
     record {
       limit = c.quantified-in-Exists.ensures.limit;
       outcome = at-goal N S D L T0 u B r (sym tree)
           (walk-exists N S D L T0 u k B r c.in-Exists.variable c.in-Exists.bound (goal_of_node nodes c.in-Exists.body)
-          (at-range c.args.job.now (g.R.Register.meaning c.args.register.now) c.args.span c.args.table.now c.quantified-in-Exists.new.table B r c.new-range-in-Exists.ensures (stop u _ _ r pr.0 pr.1 c.in-err-quantified-2.ensures.outcome)));
+          (at-range c.args.job.now (g.R.Register.meaning c.args.register.now) c.args.span c.args.table.now c.quantified-in-Exists.new.table B r c.new-range-in-Exists.ensures (stop u _ _ r pr.0 pr.1 c.in_err-quantified-in-Exists.ensures.outcome)));
     }
 
-pub node-returns-in-ok-quantified-2 : goal.node-returns-in-ok-quantified-2
-node-returns-in-ok-quantified-2 g t c =
+pub node-returns-in_ok-quantified-in-Exists : goal.node-returns-in_ok-quantified-in-Exists
+node-returns-in_ok-quantified-in-Exists g t c =
     let N : ℕ = ids_of c.args.job.now in
     let S : Facts = facts_of (g.R.Register.meaning c.args.register.now) in
     let D : ℕ = c.args.span.hours in
@@ -423,18 +422,18 @@ node-returns-in-ok-quantified-2 g t c =
     let T0 : List Part = vec_items c.args.table.now.items in
     let k : ℕ = c.args.number in
     let B : Binding = c.args.binding in
-    let tree = tree-read nodes k (Exists c.in-Exists.variable c.in-Exists.bound c.in-Exists.body) c.node-at.ensures.value c.node-at.ensures.below c.in-Exists.is in
+    let tree = tree-read nodes k (Exists c.in-Exists.variable c.in-Exists.bound c.in-Exists.body) c.node_ref_at.ensures.value c.node_ref_at.ensures.below c.in-Exists.is in
     let u : List Part = vec_items c.quantified-in-Exists.new.table.items in
-    let r : Result ℕ Full = Ok c.in-ok-quantified-2.field-0 in
+    let r : Result ℕ Full = Ok c.in_ok-quantified-in-Exists.field-0 in
     record {
       limit = c.quantified-in-Exists.ensures.limit;
       outcome = at-goal N S D L T0 u B r (sym tree)
           (walk-exists N S D L T0 u k B r c.in-Exists.variable c.in-Exists.bound (goal_of_node nodes c.in-Exists.body)
-          (at-range c.args.job.now (g.R.Register.meaning c.args.register.now) c.args.span c.args.table.now c.quantified-in-Exists.new.table B r c.new-range-in-Exists.ensures c.in-ok-quantified-2.ensures.outcome));
+          (at-range c.args.job.now (g.R.Register.meaning c.args.register.now) c.args.span c.args.table.now c.quantified-in-Exists.new.table B r c.new-range-in-Exists.ensures c.in_ok-quantified-in-Exists.ensures.outcome));
     }
 
-pub negated-returns-in-err-p : goal.negated-returns-in-err-p
-negated-returns-in-err-p g t c =
+pub negated-returns-in_err-p : goal.negated-returns-in_err-p
+negated-returns-in_err-p g t c =
     let N : ℕ = ids_of c.args.job.now in
     let S : Facts = facts_of (g.R.Register.meaning c.args.register.now) in
     let D : ℕ = c.args.span.hours in
@@ -445,10 +444,10 @@ negated-returns-in-err-p g t c =
     let B = c.args.binding in
     let p = progress N S D φ B in
     let a = results N S D φ B in
-    let pr = err_from_is_err_and c.from-residual.result c.from-residual.ensures.1 in
+    let pr = err_from_is_err_and c.from_residual.result c.from_residual.ensures.1 in
     record {
       limit = c.node.ensures.limit;
-      outcome = stop (vec_items c.node.new.table.items) (negate p) (negate p ∷ a) c.from-residual.result pr.0 pr.1 (not-over p a c.in-err-p.ensures.outcome);
+      outcome = stop (vec_items c.node.new.table.items) (negate p) (negate p ∷ a) c.from_residual.result pr.0 pr.1 (not-over p a c.in_err-p.ensures.outcome);
     }
 
 pub negated-returns : goal.negated-returns
@@ -463,12 +462,12 @@ negated-returns g t c =
     let v : List Part = vec_items c.negate.new.self.items in
     record {
       limit = c.negate.ensures.limit ∙ c.node.ensures.limit;
-      outcome = after-negate L v c.in-ok-p.p c.negate.result c.in-ok-p.ensures.outcome
+      outcome = after-negate L v c.in_ok-p.p c.negate.result c.in_ok-p.ensures.outcome
           (at-limit u v _ _ c.negate.result c.node.ensures.limit c.negate.ensures.outcome);
     }
 
-pub joined-returns-in-err-p : goal.joined-returns-in-err-p
-joined-returns-in-err-p g t c =
+pub joined-returns-in_err-p : goal.joined-returns-in_err-p
+joined-returns-in_err-p g t c =
     let N : ℕ = ids_of c.args.job.now in
     let S : Facts = facts_of (g.R.Register.meaning c.args.register.now) in
     let D : ℕ = c.args.span.hours in
@@ -483,14 +482,14 @@ joined-returns-in-err-p g t c =
     let q = progress N S D ψ B in
     let a = results N S D φ B in
     let b = results N S D ψ B in
-    let pr = err_from_is_err_and c.from-residual.result c.from-residual.ensures.1 in
+    let pr = err_from_is_err_and c.from_residual.result c.from_residual.ensures.1 in
     record {
       limit = c.node.ensures.limit;
-      outcome = stop (vec_items c.node.new.table.items) (J p q) (J p q ∷ (a ++ b)) c.from-residual.result pr.0 pr.1 (left_over J p q a b c.in-err-p.ensures.outcome);
+      outcome = stop (vec_items c.node.new.table.items) (J p q) (J p q ∷ (a ++ b)) c.from_residual.result pr.0 pr.1 (left_over J p q a b c.in_err-p.ensures.outcome);
     }
 
-pub joined-returns-in-err-q : goal.joined-returns-in-err-q
-joined-returns-in-err-q g t c =
+pub joined-returns-in_err-q : goal.joined-returns-in_err-q
+joined-returns-in_err-q g t c =
     let N : ℕ = ids_of c.args.job.now in
     let S : Facts = facts_of (g.R.Register.meaning c.args.register.now) in
     let D : ℕ = c.args.span.hours in
@@ -505,11 +504,11 @@ joined-returns-in-err-q g t c =
     let q = progress N S D ψ B in
     let a = results N S D φ B in
     let b = results N S D ψ B in
-    let pr = err_from_is_err_and c.from-residual-in-err-q.result c.from-residual-in-err-q.ensures.1 in
+    let pr = err_from_is_err_and c.from_residual-in_err-q.result c.from_residual-in_err-q.ensures.1 in
     record {
       limit = c.node-2.ensures.limit ∙ c.node.ensures.limit;
-      outcome = stop (vec_items c.node-2.new.table.items) (J p q) (J p q ∷ (a ++ b)) c.from-residual-in-err-q.result pr.0 pr.1
-          (right_over J p q a b c.node.ensures.limit c.in-ok-p.ensures.outcome c.in-err-q.ensures.outcome);
+      outcome = stop (vec_items c.node-2.new.table.items) (J p q) (J p q ∷ (a ++ b)) c.from_residual-in_err-q.result pr.0 pr.1
+          (right_over J p q a b c.node.ensures.limit c.in_ok-p.ensures.outcome c.in_err-q.ensures.outcome);
     }
 
 pub joined-returns : goal.joined-returns
@@ -533,12 +532,12 @@ joined-returns g t c =
     let w : List Part = (vec_items c.join.new.self.items) in
     record {
       limit = c.join.ensures.limit ∙ e;
-      outcome = after-join L w J c.in-ok-p.p c.in-ok-q.q c.join.result c.in-ok-p.ensures.outcome c.in-ok-q.ensures.outcome
+      outcome = after-join L w J c.in_ok-p.p c.in_ok-q.q c.join.result c.in_ok-p.ensures.outcome c.in_ok-q.ensures.outcome
           (at-limit v w _ _ c.join.result e c.join.ensures.outcome);
     }
 
-pub until-returns-in-err-p : goal.until-returns-in-err-p
-until-returns-in-err-p g t c =
+pub until-returns-in_err-p : goal.until-returns-in_err-p
+until-returns-in_err-p g t c =
     let N : ℕ = ids_of c.args.job.now in
     let S : Facts = facts_of (g.R.Register.meaning c.args.register.now) in
     let D : ℕ = c.args.span.hours in
@@ -552,14 +551,14 @@ until-returns-in-err-p g t c =
     let B = c.args.binding in
     let X = progress N S D (until k e φ ψ) B in
     let M = results N S D (until k e φ ψ) B in
-    let pr = err_from_is_err_and c.from-residual.result c.from-residual.ensures.1 in
+    let pr = err_from_is_err_and c.from_residual.result c.from_residual.ensures.1 in
     record {
       limit = c.node.ensures.limit;
-      outcome = stop (vec_items c.node.new.table.items) X M c.from-residual.result pr.0 pr.1 (hold_over N S D k e φ ψ B c.in-err-p.ensures.outcome);
+      outcome = stop (vec_items c.node.new.table.items) X M c.from_residual.result pr.0 pr.1 (hold_over N S D k e φ ψ B c.in_err-p.ensures.outcome);
     }
 
-pub until-returns-in-err-later : goal.until-returns-in-err-later
-until-returns-in-err-later g t c =
+pub until-returns-in_err-later : goal.until-returns-in_err-later
+until-returns-in_err-later g t c =
     let N : ℕ = ids_of c.args.job.now in
     let S : Facts = facts_of (g.R.Register.meaning c.args.register.now) in
     let D : ℕ = c.args.span.hours in
@@ -573,14 +572,14 @@ until-returns-in-err-later g t c =
     let B = c.args.binding in
     let X = progress N S D (until k e φ ψ) B in
     let M = results N S D (until k e φ ψ) B in
-    let pr = err_from_is_err_and c.from-residual-in-err-later.result c.from-residual-in-err-later.ensures.1 in
+    let pr = err_from_is_err_and c.from_residual-in_err-later.result c.from_residual-in_err-later.ensures.1 in
     record {
       limit = (c.rest.ensures.limit ∙ c.node.ensures.limit);
-      outcome = stop (vec_items c.rest.new.table.items) X M c.from-residual-in-err-later.result pr.0 pr.1 (rest_over N S D k e φ ψ B c.node.ensures.limit c.in-ok-p.ensures.outcome c.in-err-later.ensures.outcome);
+      outcome = stop (vec_items c.rest.new.table.items) X M c.from_residual-in_err-later.result pr.0 pr.1 (rest_over N S D k e φ ψ B c.node.ensures.limit c.in_ok-p.ensures.outcome c.in_err-later.ensures.outcome);
     }
 
-pub until-returns-in-err-q : goal.until-returns-in-err-q
-until-returns-in-err-q g t c =
+pub until-returns-in_err-q : goal.until-returns-in_err-q
+until-returns-in_err-q g t c =
     let N : ℕ = ids_of c.args.job.now in
     let S : Facts = facts_of (g.R.Register.meaning c.args.register.now) in
     let D : ℕ = c.args.span.hours in
@@ -594,10 +593,10 @@ until-returns-in-err-q g t c =
     let B = c.args.binding in
     let X = progress N S D (until k e φ ψ) B in
     let M = results N S D (until k e φ ψ) B in
-    let pr = err_from_is_err_and c.from-residual-in-err-q.result c.from-residual-in-err-q.ensures.1 in
+    let pr = err_from_is_err_and c.from_residual-in_err-q.result c.from_residual-in_err-q.ensures.1 in
     record {
       limit = (c.conjoin.ensures.limit ∙ (c.rest.ensures.limit ∙ c.node.ensures.limit));
-      outcome = stop (vec_items c.conjoin.new.self.items) X M c.from-residual-in-err-q.result pr.0 pr.1 (both-over N S D k e φ ψ B c.in-ok-p.p c.in-ok-later.later c.in-ok-p.ensures.outcome c.in-ok-later.ensures.outcome (c.rest.ensures.limit ∙ c.node.ensures.limit) c.in-err-q.ensures.outcome);
+      outcome = stop (vec_items c.conjoin.new.self.items) X M c.from_residual-in_err-q.result pr.0 pr.1 (both-over N S D k e φ ψ B c.in_ok-p.p c.in_ok-later.later c.in_ok-p.ensures.outcome c.in_ok-later.ensures.outcome (c.rest.ensures.limit ∙ c.node.ensures.limit) c.in_err-q.ensures.outcome);
     }
 
 pub until-returns-then-wait-gt0 : goal.until-returns-then-wait-gt0
@@ -617,11 +616,11 @@ until-returns-then-wait-gt0 g t c =
     let M = results N S D (until k e φ ψ) B in
     record {
       limit = (c.conjoin.ensures.limit ∙ (c.rest.ensures.limit ∙ c.node.ensures.limit));
-      outcome = waits N S D k e φ ψ B c.in-ok-p.p c.in-ok-later.later c.in-ok-p.ensures.outcome c.in-ok-later.ensures.outcome c.in-ok-q.q c.in-ok-q.ensures.outcome c.if-wait-gt0.true;
+      outcome = waits N S D k e φ ψ B c.in_ok-p.p c.in_ok-later.later c.in_ok-p.ensures.outcome c.in_ok-later.ensures.outcome c.in_ok-q.q c.in_ok-q.ensures.outcome c.if-wait-gt0.true;
     }
 
-pub until-returns-in-err-reached : goal.until-returns-in-err-reached
-until-returns-in-err-reached g t c =
+pub until-returns-in_err-reached : goal.until-returns-in_err-reached
+until-returns-in_err-reached g t c =
     let N : ℕ = ids_of c.args.job.now in
     let S : Facts = facts_of (g.R.Register.meaning c.args.register.now) in
     let D : ℕ = c.args.span.hours in
@@ -635,10 +634,10 @@ until-returns-in-err-reached g t c =
     let B = c.args.binding in
     let X = progress N S D (until k e φ ψ) B in
     let M = results N S D (until k e φ ψ) B in
-    let pr = err_from_is_err_and c.from-residual-in-err-reached.result c.from-residual-in-err-reached.ensures.1 in
+    let pr = err_from_is_err_and c.from_residual-in_err-reached.result c.from_residual-in_err-reached.ensures.1 in
     record {
       limit = (c.node-2.ensures.limit ∙ (c.conjoin.ensures.limit ∙ (c.rest.ensures.limit ∙ c.node.ensures.limit)));
-      outcome = stop (vec_items c.node-2.new.table.items) X M c.from-residual-in-err-reached.result pr.0 pr.1 (reach-over N S D k e φ ψ B c.in-ok-p.p c.in-ok-later.later c.in-ok-p.ensures.outcome c.in-ok-later.ensures.outcome c.in-ok-q.q c.in-ok-q.ensures.outcome c.if-wait-gt0.false (c.conjoin.ensures.limit ∙ (c.rest.ensures.limit ∙ c.node.ensures.limit)) c.in-err-reached.ensures.outcome);
+      outcome = stop (vec_items c.node-2.new.table.items) X M c.from_residual-in_err-reached.result pr.0 pr.1 (reach-over N S D k e φ ψ B c.in_ok-p.p c.in_ok-later.later c.in_ok-p.ensures.outcome c.in_ok-later.ensures.outcome c.in_ok-q.q c.in_ok-q.ensures.outcome c.if-wait-gt0.false (c.conjoin.ensures.limit ∙ (c.rest.ensures.limit ∙ c.node.ensures.limit)) c.in_err-reached.ensures.outcome);
     }
 
 pub until-returns : goal.until-returns
@@ -658,12 +657,12 @@ until-returns g t c =
     let M = results N S D (until k e φ ψ) B in
     record {
       limit = c.disjoin.ensures.limit ∙ (c.node-2.ensures.limit ∙ (c.conjoin.ensures.limit ∙ (c.rest.ensures.limit ∙ c.node.ensures.limit)));
-      outcome = reaches-it N S D k e φ ψ B c.in-ok-p.p c.in-ok-later.later c.in-ok-p.ensures.outcome c.in-ok-later.ensures.outcome c.in-ok-q.q c.in-ok-q.ensures.outcome c.if-wait-gt0.false (vec_items c.disjoin.new.self.items) c.in-ok-reached.reached c.disjoin.result (c.node-2.ensures.limit ∙ (c.conjoin.ensures.limit ∙ (c.rest.ensures.limit ∙ c.node.ensures.limit)))
-          c.in-ok-reached.ensures.outcome c.disjoin.ensures.outcome;
+      outcome = reaches-it N S D k e φ ψ B c.in_ok-p.p c.in_ok-later.later c.in_ok-p.ensures.outcome c.in_ok-later.ensures.outcome c.in_ok-q.q c.in_ok-q.ensures.outcome c.if-wait-gt0.false (vec_items c.disjoin.new.self.items) c.in_ok-reached.reached c.disjoin.result (c.node-2.ensures.limit ∙ (c.conjoin.ensures.limit ∙ (c.rest.ensures.limit ∙ c.node.ensures.limit)))
+          c.in_ok-reached.ensures.outcome c.disjoin.ensures.outcome;
     }
 
-pub quantified-returns-in-err-so-far : goal.quantified-returns-in-err-so-far
-quantified-returns-in-err-so-far g t c =
+pub quantified-returns-in_err-so_far : goal.quantified-returns-in_err-so_far
+quantified-returns-in_err-so_far g t c =
     let N : ℕ = ids_of c.args.job.now in
     let S : Facts = facts_of (g.R.Register.meaning c.args.register.now) in
     let D : ℕ = c.args.span.hours in
@@ -677,10 +676,10 @@ quantified-returns-in-err-so-far g t c =
     let B = c.args.binding in
     let X = joined_to N S D by v at φ B N in
     let M = results_to N S D by v at φ B N in
-    let pr = err_from_is_err_and c.from-residual.result c.from-residual.ensures.1 in
+    let pr = err_from_is_err_and c.from_residual.result c.from_residual.ensures.1 in
     record {
       limit = c.start.ensures.limit;
-      outcome = stop (vec_items c.start.new.self.items) X M c.from-residual.result pr.0 pr.1 (start-over N S D by v at φ B c.in-err-so-far.ensures.outcome);
+      outcome = stop (vec_items c.start.new.self.items) X M c.from_residual.result pr.0 pr.1 (start-over N S D by v at φ B c.in_err-so_far.ensures.outcome);
     }
 
 pub quantified-loop-id-init : goal.quantified-loop-id-init
@@ -698,10 +697,10 @@ quantified-loop-id-init g t c =
     let B = c.args.binding in
     let X = joined_to N S D by v at φ B N in
     let M = results_to N S D by v at φ B N in
-    (refl, begins N S D by v at φ B c.start.new.self.order c.in-ok-so-far.ensures.outcome)
+    (refl, begins N S D by v at φ B c.start.new.self.order c.in_ok-so_far.ensures.outcome)
 
-pub quantified-returns-in-err-p : goal.quantified-returns-in-err-p
-quantified-returns-in-err-p g t c =
+pub quantified-returns-in_err-p : goal.quantified-returns-in_err-p
+quantified-returns-in_err-p g t c =
     let N : ℕ = ids_of c.args.job.now in
     let S : Facts = facts_of (g.R.Register.meaning c.args.register.now) in
     let D : ℕ = c.args.span.hours in
@@ -715,17 +714,17 @@ quantified-returns-in-err-p g t c =
     let B = c.args.binding in
     let X = joined_to N S D by v at φ B N in
     let M = results_to N S D by v at φ B N in
-    let pr = err_from_is_err_and c.from-residual-in-err-p.result c.from-residual-in-err-p.ensures.1 in
+    let pr = err_from_is_err_and c.from_residual-in_err-p.result c.from_residual-in_err-p.ensures.1 in
     let lt : c.loop-id.id < N = omega (arith, c.ids-id-end.ensures.value, c.loop-id-test.true) in
     record {
       limit = c.node.ensures.limit ∙ (c.loop-id.invariant.0 ∙ c.start.ensures.limit);
-      outcome = stop (vec_items c.node.new.table.items) X M c.from-residual-in-err-p.result pr.0 pr.1
-          (turn_over N S D by v at φ B c.start.ensures.limit c.in-ok-so-far.ensures.outcome
-          (item-over N S D by v at φ B c.loop-id.id c.with-bound.result c.with-bound.ensures c.loop-id.so_far c.loop-id.invariant.1 (sym c.is-fact.ensures ∙ c.if-is-fact.true) c.loop-id.invariant.0 lt c.in-err-p.ensures.outcome));
+      outcome = stop (vec_items c.node.new.table.items) X M c.from_residual-in_err-p.result pr.0 pr.1
+          (turn_over N S D by v at φ B c.start.ensures.limit c.in_ok-so_far.ensures.outcome
+          (item-over N S D by v at φ B c.loop-id.id c.with-bound.result c.with-bound.ensures c.loop-id.so_far c.loop-id.invariant.1 (sym c.is_fact.ensures ∙ c.if-is_fact.true) c.loop-id.invariant.0 lt c.in_err-p.ensures.outcome));
     }
 
-pub quantified-returns-in-err-so-far-2 : goal.quantified-returns-in-err-so-far-2
-quantified-returns-in-err-so-far-2 g t c =
+pub quantified-returns-in_err-so_far-2 : goal.quantified-returns-in_err-so_far-2
+quantified-returns-in_err-so_far-2 g t c =
     let N : ℕ = ids_of c.args.job.now in
     let S : Facts = facts_of (g.R.Register.meaning c.args.register.now) in
     let D : ℕ = c.args.span.hours in
@@ -739,14 +738,14 @@ quantified-returns-in-err-so-far-2 g t c =
     let B = c.args.binding in
     let X = joined_to N S D by v at φ B N in
     let M = results_to N S D by v at φ B N in
-    let pr = err_from_is_err_and c.from-residual-in-err-so-far-2.result c.from-residual-in-err-so-far-2.ensures.1 in
+    let pr = err_from_is_err_and c.from_residual-in_err-so_far-2.result c.from_residual-in_err-so_far-2.ensures.1 in
     let lt : c.loop-id.id < N = omega (arith, c.ids-id-end.ensures.value, c.loop-id-test.true) in
     record {
       limit = c.join.ensures.limit ∙ (c.node.ensures.limit ∙ (c.loop-id.invariant.0 ∙ c.start.ensures.limit));
-      outcome = stop (vec_items c.join.new.self.items) X M c.from-residual-in-err-so-far-2.result pr.0 pr.1
-          (turn_over N S D by v at φ B c.start.ensures.limit c.in-ok-so-far.ensures.outcome
-          (join-over N S D by v at φ B c.loop-id.id c.with-bound.result c.with-bound.ensures c.loop-id.so_far c.loop-id.invariant.1 (sym c.is-fact.ensures ∙ c.if-is-fact.true) c.in-ok-p.p c.in-ok-p.ensures.outcome
-          (c.node.ensures.limit ∙ c.loop-id.invariant.0) lt c.in-err-so-far-2.ensures.outcome));
+      outcome = stop (vec_items c.join.new.self.items) X M c.from_residual-in_err-so_far-2.result pr.0 pr.1
+          (turn_over N S D by v at φ B c.start.ensures.limit c.in_ok-so_far.ensures.outcome
+          (join-over N S D by v at φ B c.loop-id.id c.with-bound.result c.with-bound.ensures c.loop-id.so_far c.loop-id.invariant.1 (sym c.is_fact.ensures ∙ c.if-is_fact.true) c.in_ok-p.p c.in_ok-p.ensures.outcome
+          (c.node.ensures.limit ∙ c.loop-id.invariant.0) lt c.in_err-so_far-2.ensures.outcome));
     }
 
 pub quantified-loop-id-preserved : goal.quantified-loop-id-preserved
@@ -765,18 +764,18 @@ quantified-loop-id-preserved g t c =
     let X = joined_to N S D by v at φ B N in
     let M = results_to N S D by v at φ B N in
     let Goes : Table → ℕ → Type 0 = λ tb j. (tb.limit ≡ c.start.new.self.limit) × Made (vec_items c.start.new.self.items) (vec_items tb.items) (joined_to N S D by v at φ B (c.loop-id.id + 1)) (results_to N S D by v at φ B (c.loop-id.id + 1)) j in
-    elim c.if-is-fact.branch [
-      | quantified-then-is-fact+in-ok-p+in-ok-so-far-2 w ↦
-          subst (λ (tb : Table). Goes tb c.if-is-fact.so_far) (sym w.table-is)
-          (subst (Goes w.join.new.self) (sym w.so-far-is) (
+    elim c.if-is_fact.branch [
+      | quantified-then-is_fact+in_ok-p+in_ok-so_far-2 w ↦
+          subst (λ (tb : Table). Goes tb c.if-is_fact.so_far) (sym w.table-is)
+          (subst (Goes w.join.new.self) (sym w.so_far-is) (
             w.join.ensures.limit ∙ (w.node.ensures.limit ∙ c.loop-id.invariant.0),
-            joins N S D by v at φ B c.loop-id.id c.with-bound.result c.with-bound.ensures c.loop-id.so_far c.loop-id.invariant.1 (sym c.is-fact.ensures ∙ w.if-is-fact.true) w.in-ok-p.p w.in-ok-p.ensures.outcome
-                w.in-ok-so-far-2.ensures.outcome,
+            joins N S D by v at φ B c.loop-id.id c.with-bound.result c.with-bound.ensures c.loop-id.so_far c.loop-id.invariant.1 (sym c.is_fact.ensures ∙ w.if-is_fact.true) w.in_ok-p.p w.in_ok-p.ensures.outcome
+                w.in_ok-so_far-2.ensures.outcome,
           ))
-      | quantified-else-is-fact w ↦
-          subst (λ (tb : Table). Goes tb c.if-is-fact.so_far) (sym w.table-is)
-          (subst (Goes c.loop-id.table) (sym w.so-far-is)
-          (c.loop-id.invariant.0, skips N S D by v at φ B c.loop-id.id c.with-bound.result c.with-bound.ensures c.loop-id.so_far c.loop-id.invariant.1 (sym c.is-fact.ensures ∙ w.if-is-fact.false)))
+      | quantified-else-is_fact w ↦
+          subst (λ (tb : Table). Goes tb c.if-is_fact.so_far) (sym w.table-is)
+          (subst (Goes c.loop-id.table) (sym w.so_far-is)
+          (c.loop-id.invariant.0, skips N S D by v at φ B c.loop-id.id c.with-bound.result c.with-bound.ensures c.loop-id.so_far c.loop-id.invariant.1 (sym c.is_fact.ensures ∙ w.if-is_fact.false)))
     ]
 
 pub quantified-returns : goal.quantified-returns
@@ -797,5 +796,5 @@ quantified-returns g t c =
     let n : c.loop-id.id ≡ N = omega (arith, c.ids-id-end.ensures.value) in
     record {
       limit = c.loop-id.invariant.0 ∙ c.start.ensures.limit;
-      outcome = all_turns N S D by v at φ B c.loop-id.id n c.in-ok-so-far.ensures.outcome c.loop-id.invariant.1;
+      outcome = all_turns N S D by v at φ B c.loop-id.id n c.in_ok-so_far.ensures.outcome c.loop-id.invariant.1;
     }

@@ -1,4 +1,4 @@
-use Rattle.std.proofs.Common.{◌≡◌, ℕ, ◌+◌, ◌*◌, vec_items}
+use Rattle.std.proofs.Common.{◌≡◌, ◌+◌, ◌*◌, vec_items}
 use Rattle.goals.specs.JobView.{ids_of, nodes_of}
 use Rattle.labels.specs.Goals.{goal_of_node}
 use Rattle.labels.specs.Growth.{Made}
@@ -27,4 +27,4 @@ invariant-quantified-loop-id g l =
     × Made (vec_items l.initial.table.items) (vec_items l.table.items)
     (joined_to (ids_of l.job) (facts_of (g.R.Register.meaning l.register)) l.span.hours l.range.by l.range.variable l.range.bound (goal_of_node (nodes_of l.job) l.range.body) l.binding l.id)
     (results_to (ids_of l.job) (facts_of (g.R.Register.meaning l.register)) l.span.hours l.range.by l.range.variable l.range.bound (goal_of_node (nodes_of l.job) l.range.body) l.binding l.id)
-    l.so-far
+    l.so_far

@@ -1,4 +1,4 @@
-use Rattle.std.proofs.Common.{◌≡◌, ℕ, ◌<◌, ◌≤◌, Bool, true, false, cond, List, length, get_or, Ok, Err, vec_items, vec_len, sym, ap, ◌∙◌, arith}
+use Rattle.std.proofs.Common.{◌≡◌, ◌<◌, ◌≤◌, Bool, false, List, length, get_or, Ok, vec_items, vec_len, sym, ap, ◌∙◌, arith}
 use Rattle.std.proofs.lemmas.List.{get_or_read}
 use Rattle.labels.specs.declared.part.Part.{Part}
 use Rattle.labels.specs.LabelCalls.{label_of}
@@ -6,10 +6,10 @@ use Rattle.labels.proofs.Meanings.{judges}
 use Rattle.labels.proofs.Answering.{idling_other, idling-known}
 use Rattle.labels.proofs.label.Label.idles.Goals as goal
 
-pub returns-then-not-is-known : goal.returns-then-not-is-known
-returns-then-not-is-known g c = record {
+pub returns-then-not-is_known : goal.returns-then-not-is_known
+returns-then-not-is_known g c = record {
   answer = idling_other c.args.job.now (g.R.Register.meaning c.args.register.now) (label_of c.args.self.now)
-      (sym c.is-known.ensures.answer ∙ c.if-not-is-known.true);
+      (sym c.is_known.ensures.answer ∙ c.if-not-is_known.true);
   truth = tt;
 }
 
@@ -20,17 +20,17 @@ returns g c =
     let m = g.R.Register.meaning c.args.register.now in
     let l = c.args.self.now in
     let t : List Part = vec_items l.table.items in
-    let gave : List Bool = vec_items c.every-part.new.gave in
-    let v : vec_len c.every-part.new.gave ≡ length gave = c.every-part.new.gave.ok.0 in
-    let n : vec_len c.every-part.new.gave ≡ vec_len c.args.workspace.now.marks = c.every-part.ensures.len in
+    let gave : List Bool = vec_items c.every_part.new.gave in
+    let v : vec_len c.every_part.new.gave ≡ length gave = c.every_part.new.gave.ok.0 in
+    let n : vec_len c.every_part.new.gave ≡ vec_len c.args.workspace.now.marks = c.every_part.ensures.len in
     let beside : vec_len c.args.workspace.now.marks ≡ 4096 = c.args.workspace.now.beside in
     let y : vec_len l.table.items ≡ length t = l.table.items.ok.0 in
     let few : vec_len l.table.items ≤ l.table.limit = l.table.few in
     let roomy : l.table.limit ≡ 512 = l.roomy in
     let inside : l.root < length t = l.inside in
     let here : c.index.result.now ≡ get_or gave l.root false = get_or_read gave l.root c.index.result.now (omega arith) c.index.ensures false in
-    let is = here ∙ c.every-part.ensures.gave l.root inside in
+    let is = here ∙ c.every_part.ensures.gave l.root inside in
     record {
-      answer = ap Ok is ∙ idling-known job m (label_of l) (sym c.is-known.ensures.answer ∙ c.if-not-is-known.false);
-      truth = judges job c.is-known.ensures.sound m (label_of l) l.ordered c.index.result.now is;
+      answer = ap Ok is ∙ idling-known job m (label_of l) (sym c.is_known.ensures.answer ∙ c.if-not-is_known.false);
+      truth = judges job c.is_known.ensures.sound m (label_of l) l.ordered c.index.result.now is;
     }

@@ -1,4 +1,4 @@
-use Rattle.std.proofs.Common.{◌≡◌, ◌<◌, true, false, length, Err, vec_items, sym, ap, ◌∙◌, subst}
+use Rattle.std.proofs.Common.{◌≡◌, ◌<◌, true, length, Err, vec_items, sym, ap, ◌∙◌, subst}
 use Rattle.std.proofs.lemmas.Result.{err_from_is_err_and, IfOk-from_err}
 use Rattle.labels.specs.declared.refusal.LabelRefusal.{LabelRefusal}
 use Rattle.labels.specs.declared.refusal.LabelRefusal.TheVariants.{OtherJob}
@@ -11,23 +11,23 @@ use Rattle.labels.proofs.Meanings.{carries, progress-ordered}
 use Rattle.labels.proofs.Answering.{other_job, left_alone, changed, work-refused, work_accepted, new-label}
 use Rattle.labels.proofs.label.Label.progress.Goals as goal
 
-pub returns-then-not-is-known : goal.returns-then-not-is-known
-returns-then-not-is-known g c =
+pub returns-then-not-is_known : goal.returns-then-not-is_known
+returns-then-not-is_known g c =
     let m = g.R.Register.meaning c.args.register.now in
     let l = label_of c.args.self.now in
-    let e = other_job c.args.job.now m c.args.span l (sym c.is-known.ensures.answer ∙ c.if-not-is-known.true) in
+    let e = other_job c.args.job.now m c.args.span l (sym c.is_known.ensures.answer ∙ c.if-not-is_known.true) in
     record { answer = e; after = left_alone c.args.job.now m c.args.span l OtherJob e; truth = tt }
 
-pub returns-in-err-root : goal.returns-in-err-root
-returns-in-err-root g c =
+pub returns-in_err-root : goal.returns-in_err-root
+returns-in_err-root g c =
     let m = g.R.Register.meaning c.args.register.now in
     let l = label_of c.args.self.now in
-    let pr = err_from_is_err_and c.from-residual.result c.from-residual.ensures.1 in
-    let known = sym c.is-known.ensures.answer ∙ c.if-not-is-known.false in
-    let refusal : LabelRefusal = c.in-err-root.field-0.0 in
-    let e = work-refused c.args.job.now m c.args.span l known (vec_items c.work-out.new.workspace.fresh.items) refusal
-    c.in-err-root.ensures in
-    record { answer = pr.1 ∙ (ap Err pr.2 ∙ e); after = left_alone c.args.job.now m c.args.span l refusal e; truth = IfOk-from_err c.from-residual.result _ c.from-residual.ensures.0 }
+    let pr = err_from_is_err_and c.from_residual.result c.from_residual.ensures.1 in
+    let known = sym c.is_known.ensures.answer ∙ c.if-not-is_known.false in
+    let refusal : LabelRefusal = c.in_err-root.field-0.0 in
+    let e = work-refused c.args.job.now m c.args.span l known (vec_items c.work_out.new.workspace.fresh.items) refusal
+    c.in_err-root.ensures in
+    record { answer = pr.1 ∙ (ap Err pr.2 ∙ e); after = left_alone c.args.job.now m c.args.span l refusal e; truth = IfOk-from_err c.from_residual.result _ c.from_residual.ensures.0 }
 
 pub returns : goal.returns
 unfolding label_of
@@ -36,36 +36,29 @@ returns g c =
     let m = g.R.Register.meaning c.args.register.now in
     let D = c.args.span in
     let l = label_of c.args.self.now in
-    let known = sym c.is-known.ensures.answer ∙ c.if-not-is-known.false in
-    let root = c.in-ok-root.root in
-    let new = vec_items c.work-out.new.workspace.fresh.items in
-    let e = work_accepted job m D l known new root c.in-ok-root.ensures in
-    let is = ap (λ (tb : Table). label_at (vec_items tb.items) root) c.swap.ensures.x-after
-    ∙ new-label job m D l known new root c.in-ok-root.ensures in
+    let known = sym c.is_known.ensures.answer ∙ c.if-not-is_known.false in
+    let root = c.in_ok-root.root in
+    let new = vec_items c.work_out.new.workspace.fresh.items in
+    let e = work_accepted job m D l known new root c.in_ok-root.ensures in
+    let is = ap (λ (tb : Table). label_at (vec_items tb.items) root) c.swap.ensures.x_after
+    ∙ new-label job m D l known new root c.in_ok-root.ensures in
     record { answer = e; after = is ∙ changed job m D l e; truth = subst (Carries job m D l) (sym is) (carries job m D l) }
 
-pub invariant-of-self : goal.invariant-of-self
+pub invariant_of-self : goal.invariant_of-self
 unfolding label_of
-invariant-of-self g c =
+invariant_of-self g c =
     let job = c.args.job.now in
     let m = g.R.Register.meaning c.args.register.now in
     let D = c.args.span in
     let l = label_of c.args.self.now in
-    let known = sym c.is-known.ensures.answer ∙ c.if-not-is-known.false in
-    let root = c.in-ok-root.root in
-    let fresh = c.work-out.new.workspace.fresh in
-    let w = c.in-ok-root.ensures in
+    let known = sym c.is_known.ensures.answer ∙ c.if-not-is_known.false in
+    let root = c.in_ok-root.root in
+    let fresh = c.work_out.new.workspace.fresh in
+    let w = c.in_ok-root.ensures in
     let is = new-label job m D l known (vec_items fresh.items) root w in
     let Fine : Table → Type 0 = λ tb.
-    (tb.limit ≡ 512) × ((root < length (vec_items tb.items)) × (OnlyParts (vec_items tb.items) root
-    × ((ordered_label (label_at (vec_items tb.items) root) ≡ true) × Unit {0}))) in
-    subst Fine (sym c.swap.ensures.x-after) (
-      c.work-out.new.workspace.roomy,
-      (
-        w.within,
-        (
-          w.only,
-          (ap ordered_label is ∙ progress-ordered job c.is-known.ensures.sound m D l c.args.self.now.ordered, tt),
-        ),
-      ),
-    )
+    (tb.limit ≡ 512) × (root < length (vec_items tb.items)) × OnlyParts (vec_items tb.items) root
+    × (ordered_label (label_at (vec_items tb.items) root) ≡ true) in
+    let fine = subst Fine (sym c.swap.ensures.x_after)
+    (c.work_out.new.workspace.roomy, w.within, w.only, ap ordered_label is ∙ progress-ordered job c.is_known.ensures.sound m D l c.args.self.now.ordered) in
+    record { roomy = fine.0; inside = fine.1; only = fine.2; ordered = fine.3 }

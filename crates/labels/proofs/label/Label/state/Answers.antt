@@ -17,9 +17,9 @@ returns-in-False c =
     let l = c.args.self.now in
     ap state_of (sym (label-at (vec_items l.table.items) l.table.order l.root l.inside False (sym c.in-False.ensures)))
 
-pub returns-in-default : goal.returns-in-default
+pub returns-in_default : goal.returns-in_default
 unfolding label_of
-returns-in-default c =
+returns-in_default c =
     let l = c.args.self.now in
     open_at (vec_items l.table.items) l.table.order l.root l.inside c.part.result (sym c.part.ensures)
-    c.in-default.not-True c.in-default.not-False
+    c.in_default.not-True c.in_default.not-False

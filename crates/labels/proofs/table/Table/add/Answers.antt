@@ -1,4 +1,4 @@
-use Rattle.std.proofs.Common.{◌≡◌, ℕ, ◌<◌, ◌≤◌, List, [], ◌∷◌, ◌++◌, length, get_or, vec_items, vec_len, sym, refl, ap, ◌∙◌, subst, arith}
+use Rattle.std.proofs.Common.{◌≡◌, ℕ, ◌<◌, List, [], ◌∷◌, ◌++◌, length, get_or, vec_items, vec_len, sym, refl, subst, arith}
 use Rattle.std.proofs.lemmas.List.{get_or_read}
 use Rattle.labels.specs.declared.part.Part.{Part}
 use Rattle.labels.specs.declared.part.Part.TheVariants.{True}
@@ -22,8 +22,8 @@ returns-then-n-self c =
     let none : (k : ℕ) → k < length t → get_or t k True ≡ c.args.part → ⊥ = c.find-at.ensures.none (omega arith) in
     record { limit = refl; outcome = full t c.args.self.now.order c.args.self.now.twins c.args.part c.requires none c.args.self.now.limit (omega arith) }
 
-pub invariant-of-self : goal.invariant-of-self
-invariant-of-self c =
+pub invariant_of-self : goal.invariant_of-self
+invariant_of-self c =
     let t : List Part = vec_items c.args.self.now.items in
     let hs : List ℕ = vec_items c.args.self.now.heads in
     let ns : List ℕ = vec_items c.args.self.now.next in
@@ -31,53 +31,30 @@ invariant-of-self c =
     let w : vec_len c.args.self.now.heads ≡ length hs = c.args.self.now.heads.ok.0 in
     let x : vec_len c.args.self.now.next ≡ length ns = c.args.self.now.next.ok.0 in
     let none : (k : ℕ) → k < length t → get_or t k True ≡ c.args.part → ⊥ = c.find-at.ensures.none (omega arith) in
-    let last : c.index-last.result.now ≡ get_or hs c.hash-bucket.result 0 =
-    get_or_read hs c.hash-bucket.result c.index-last.result.now (omega arith) c.index-last.ensures 0 in
+    let last : c.index-last.result.now ≡ get_or hs c.hash-h.result 0 =
+    get_or_read hs c.hash-h.result c.index-last.result.now (omega arith) c.index-last.ensures 0 in
     let i = index_pushed t hs ns c.args.part c.len-n.result (omega arith) (omega arith) (omega arith)
     c.args.self.now.latest c.args.self.now.linked
     (λ b k e. (c.args.self.now.inside b k e, c.args.self.now.own b k e))
     (λ j k h. (c.args.self.now.earlier j k h, c.args.self.now.alongside j k h))
-    (vec_items c.push-reserved.new.self) (vec_items c.push-reserved-2.new.self) c.hash-bucket.result c.index-last.result.now
-    c.push-reserved.ensures.items c.push-reserved-2.ensures.items c.hash-bucket.ensures.value last in (
-      c.args.self.now.small,
-      (
-        omega arith,
-        (
-          omega arith,
-          (
-            subst InOrder (sym c.push-reserved.ensures.items) (pushed_order t c.args.self.now.order c.args.self.now.twins c.args.part c.requires none),
-            (
-              subst NoTwins (sym c.push-reserved.ensures.items) (pushed_twins t c.args.self.now.order c.args.self.now.twins c.args.part c.requires none),
-              (
-                c.args.self.now.buckets,
-                (
-                  omega arith,
-                  (
-                    omega arith,
-                    (
-                      i.0,
-                      (
-                        i.1,
-                        (
-                          (λ b k e. (i.2 b k e).0),
-                          (
-                            (λ b k e. (i.2 b k e).1),
-                            (
-                              (λ j k h. (i.3 j k h).0),
-                              ((λ j k h. (i.3 j k h).1), tt),
-                            ),
-                          ),
-                        ),
-                      ),
-                    ),
-                  ),
-                ),
-              ),
-            ),
-          ),
-        ),
-      ),
-    )
+    (vec_items c.push_reserved.new.self) (vec_items c.push_reserved-2.new.self) c.hash-h.result c.index-last.result.now
+    c.push_reserved.ensures.items c.push_reserved-2.ensures.items c.hash-h.ensures.value last in
+    record {
+      small = c.args.self.now.small;
+      room = omega arith;
+      few = omega arith;
+      order = subst InOrder (sym c.push_reserved.ensures.items) (pushed_order t c.args.self.now.order c.args.self.now.twins c.args.part c.requires none);
+      twins = subst NoTwins (sym c.push_reserved.ensures.items) (pushed_twins t c.args.self.now.order c.args.self.now.twins c.args.part c.requires none);
+      buckets = c.args.self.now.buckets;
+      beside = omega arith;
+      spare = omega arith;
+      latest = i.0;
+      linked = i.1;
+      inside = λ b k e. (i.2 b k e).0;
+      own = λ b k e. (i.2 b k e).1;
+      earlier = λ j k h. (i.3 j k h).0;
+      alongside = λ j k h. (i.3 j k h).1;
+    }
 
 pub returns : goal.returns
 returns c =
@@ -88,7 +65,7 @@ returns c =
     record {
       limit = refl;
       outcome =
-          subst (λ (u : List Part). Made t u (composed (label_at t) c.args.part) (composed (label_at t) c.args.part ∷ []) c.len-n.result) (sym c.push-reserved.ensures.items)
+          subst (λ (u : List Part). Made t u (composed (label_at t) c.args.part) (composed (label_at t) c.args.part ∷ []) c.len-n.result) (sym c.push_reserved.ensures.items)
           (subst (Made t (t ++ c.args.part ∷ []) (composed (label_at t) c.args.part) (composed (label_at t) c.args.part ∷ [])) e
           (pushed t c.args.self.now.order c.args.self.now.twins c.args.part c.requires none));
     }

@@ -1,10 +1,10 @@
-use Rattle.std.proofs.Common.{◌≡◌, ℕ, suc, ◌-◌, ◌<◌, ◌≤◌, T, List, [], ◌∷◌, ◌++◌, length, get_or, vec_items, vec_len, sym, refl, ap, ◌∙◌, subst, arith}
+use Rattle.std.proofs.Common.{◌≡◌, ℕ, suc, ◌-◌, ◌<◌, ◌≤◌, List, length, get_or, vec_items, vec_len, sym, ap, ◌∙◌, subst, arith}
 use native.Mathlib.Decide.{dec_lt}
 use Rattle.std.proofs.lemmas.List.{get_or_read}
 use Rattle.labels.proofs.Logic.{to_T, no_T}
 use Rattle.labels.specs.declared.part.Part.{Part}
 use Rattle.labels.specs.declared.part.Part.TheVariants.{True}
-use Rattle.labels.specs.Chains.{bucket, bucket_at}
+use Rattle.labels.specs.Chains.{bucket}
 use Rattle.labels.proofs.Links.{walk_on}
 use Rattle.labels.proofs.table.Table.find.Goals as goal
 
@@ -13,9 +13,9 @@ loop-at-init c =
     let t : List Part = vec_items c.args.self.now.items in
     let hs : List ℕ = vec_items c.args.self.now.heads in
     let w : vec_len c.args.self.now.heads ≡ length hs = c.args.self.now.heads.ok.0 in
-    let b : ℕ = c.args.bucket in
+    let b : ℕ = c.hash.result in
     let here : c.index-at.result.now ≡ get_or hs b 0 = get_or_read hs b c.index-at.result.now (omega arith) c.index-at.ensures 0 in
-    let same : b ≡ bucket c.args.part = c.requires.own in (
+    let same : b ≡ bucket c.args.part = c.hash.ensures.value in (
       (λ k kl e.
           let l = c.args.self.now.latest k kl in
           subst (λ (n : ℕ). suc k ≤ n) (ap (λ (i : ℕ). get_or hs i 0) (ap bucket e ∙ sym same) ∙ sym here) l),
@@ -31,15 +31,15 @@ index-requires c =
     let h = c.loop-at.invariant.1 (c.loop-at.at - 1) (omega arith) in
     omega (arith, h.0)
 
-pub returns-then-same-part : goal.returns-then-same-part
-returns-then-same-part c =
+pub returns-then-same_part : goal.returns-then-same_part
+returns-then-same_part c =
     let t : List Part = vec_items c.args.self.now.items in
     let h = c.loop-at.invariant.1 (c.loop-at.at - 1) (omega arith) in
     let lt : c.loop-at.at - 1 < length t = h.0 in
     let here = get_or_read t (c.loop-at.at - 1) c.index.result.now lt c.index.ensures True in
     record {
       within = omega arith;
-      there = λ _. sym here ∙ c.same-part.ensures.0 (to_T c.if-same-part.true);
+      there = λ _. sym here ∙ c.same_part.ensures.0 (to_T c.if-same_part.true);
       none = λ le. absurd (omega arith);
     }
 
@@ -71,7 +71,7 @@ loop-at-preserved c =
     let seen = get_or_read t at c.index.result.now lt c.index.ensures True in
     let inv : (k : ℕ) → k < length t → get_or t k True ≡ c.args.part → suc k ≤ suc at = λ k kl e. let i = c.loop-at.invariant.0 k kl e in omega arith in
     let w = walk_on t ns c.args.part at c.args.self.now.linked inv lt h.1
-    (λ e. no_T c.if-same-part.false (c.same-part.ensures.1 (seen ∙ e))) in (
+    (λ e. no_T c.if-same_part.false (c.same_part.ensures.1 (seen ∙ e))) in (
       (λ k kl e. subst (λ (n : ℕ). suc k ≤ n) (sym here) (w k kl e)),
       (λ k e. let f = c.args.self.now.earlier at k (lt, sym here ∙ e) in
           (omega arith, c.args.self.now.alongside at k (lt, sym here ∙ e) ∙ h.1)),

@@ -10,9 +10,9 @@ returns-in-True c = record {
   no = λ e. absurd (false≢true (sym e));
 }
 
-pub returns-in-default : goal.returns-in-default
-returns-in-default c = record {
+pub returns-in_default : goal.returns-in_default
+returns-in_default c = record {
   yes = λ e. absurd (false≢true e);
   no = λ _. not_true (vec_items c.args.self.now.items) c.args.self.now.order c.args.place c.requires c.part.result
-      (sym c.part.ensures) c.in-default.not-True;
+      (sym c.part.ensures) c.in_default.not-True;
 }

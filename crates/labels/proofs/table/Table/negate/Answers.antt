@@ -1,7 +1,6 @@
 use Rattle.std.proofs.Common.{◌≡◌, ℕ, ◌<◌, List, length, get_or, vec_items, sym, refl, ap, ◌∙◌, arith, ltb-true}
 use Rattle.labels.specs.declared.part.Part.{Part}
 use Rattle.labels.specs.declared.part.Part.TheVariants.{True, False, Not}
-use Rattle.labels.specs.Labels.{Label}
 use Rattle.labels.specs.Joining.{negate}
 use Rattle.labels.specs.Table.{label_at, before}
 use Rattle.labels.proofs.Growing.{stands}
@@ -45,14 +44,14 @@ returns-in-Not c =
       outcome = stands t c.args.self.now.order (negate (label_at t i)) x (omega arith) (negate-not (label_at t i) (label_at t x) e);
     }
 
-pub returns-in-default : goal.returns-in-default
-returns-in-default c =
+pub returns-in_default : goal.returns-in_default
+returns-in_default c =
     let t : List Part = vec_items c.args.self.now.items in
     let i : ℕ = c.args.place in
     let e = negate-at t c.args.self.now.order i c.requires c.part.result (sym c.part.ensures)
-    c.in-default.not-True c.in-default.not-False c.in-default.not-Not in
+    c.in_default.not-True c.in_default.not-False c.in_default.not-Not in
     record {
-      limit = c.add-in-default.ensures.limit;
-      outcome = at_label c.args.self.now.limit t (vec_items c.add-in-default.new.self.items) c.add-in-default.result
-          (sym e) c.add-in-default.ensures.outcome;
+      limit = c.add-in_default.ensures.limit;
+      outcome = at_label c.args.self.now.limit t (vec_items c.add-in_default.new.self.items) c.add-in_default.result
+          (sym e) c.add-in_default.ensures.outcome;
     }

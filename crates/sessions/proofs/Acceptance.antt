@@ -1,5 +1,5 @@
 -- A step is accepted exactly where no check refuses it, and a refusal for a need names the first that fails.
-use Rattle.std.proofs.Common.{◌≡◌, ℕ, zero, suc, ◌+◌, ◌<◌, ◌≤◌, Bool, true, false, cond, not, ltb, leb, ◌↔◌, List, [], ◌∷◌, Some, None, Ok, Err, Option, Result, sym, refl, ap, ◌∙◌, subst, arith, MatchOption}
+use Rattle.std.proofs.Common.{◌≡◌, ℕ, zero, suc, ◌+◌, ◌<◌, ◌≤◌, Bool, true, false, cond, not, ltb, leb, List, [], ◌∷◌, Some, None, Ok, Err, Option, Result, sym, refl, ap, ◌∙◌, subst, arith, MatchOption}
 use Rattle.std.proofs.lemmas.Bool.{ltb-false, leb-false, le-ltb, lt-leb}
 use Rattle.std.specs.List.{slice_get}
 use Rattle.registers.specs.Meaning.{Meaning, size_of, limit_of}
@@ -7,14 +7,14 @@ use Rattle.goals.specs.declared.job.Job.{Job}
 use Rattle.goals.specs.declared.operation.Entry.{Entry}
 use Rattle.goals.specs.declared.operation.Operation.{Operation}
 use Rattle.goals.specs.Entries.{entries_of}
-use Rattle.goals.specs.JobView.{ids_of, nodes_of, operations_in}
+use Rattle.goals.specs.JobView.{ids_of, operations_in}
 use Rattle.labels.specs.Labels.{Label}
 use Rattle.labels.specs.Size.{size}
 use Rattle.labels.specs.LabelCalls.{known_to, progress_of, work_of}
 use Rattle.sessions.specs.declared.step.Arguments.{Arguments}
 use Rattle.sessions.specs.declared.step.Step.{Step}
 use Rattle.sessions.specs.declared.refusal.StepRefusal.{StepRefusal}
-use Rattle.sessions.specs.declared.refusal.StepRefusal.TheVariants.{OtherJob, NoOperation, BadArgument, Need, TooManySteps, Full, TooMuchWork, TooLong}
+use Rattle.sessions.specs.declared.refusal.StepRefusal.TheVariants.{OtherJob, BadArgument, Need, TooManySteps, Full, TooMuchWork, TooLong}
 use Rattle.sessions.specs.Steps.{arguments_fit, need_holds, failing_from, first_failing, facts_after}
 use Rattle.sessions.specs.Checks.{refuse_if, refuse_need, checked_limits, checked_operation, checked_number, checked, Acceptable, StepsAreAccepted, FirstNeed, FirstNeedIsNamed}
 

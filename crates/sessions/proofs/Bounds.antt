@@ -1,5 +1,5 @@
 -- The puts of an operation that keeps within its bounds, under arguments that fit it, may all be held.
-use Rattle.std.proofs.Common.{◌≡◌, ℕ, ◌<◌, ◌≤◌, Bool, true, false, cond, ◌&&◌, eqb, ltb, leb, List, [], ◌∷◌, map, sym, refl, ap, ◌∙◌, arith}
+use Rattle.std.proofs.Common.{◌≡◌, ℕ, ◌<◌, ◌≤◌, Bool, true, false, cond, eqb, ltb, leb, List, [], ◌∷◌, map, ◌∙◌, arith}
 use Rattle.std.proofs.lemmas.Bool.{and_parts, and_from, ltb-true, leb-true, lt-ltb, eqb-true}
 use Rattle.registers.specs.Meaning.{allowed, all_allowed}
 use Rattle.registers.proofs.ListLaws.{allowed_cons, allowed-none}
@@ -10,7 +10,7 @@ use Rattle.goals.specs.declared.operation.Operation.{Operation}
 use Rattle.goals.specs.Entries.{entries_of}
 use Rattle.goals.specs.EntryBounds.{term_inside, entry_inside, entries_inside, operation_inside, Inside}
 use Rattle.sessions.specs.declared.step.Arguments.{Arguments}
-use Rattle.sessions.specs.Steps.{argument, term_id, ground, ground_all, argument_fits, arguments_fit}
+use Rattle.sessions.specs.Steps.{term_id, ground, ground_all, argument_fits, arguments_fit}
 
 module _ (N parameters : ℕ) (a : Arguments) (few : N ≤ 128) (some : 0 < N) (fit : arguments_fit N parameters a ≡ true) where
   -- an argument is below N, used or not

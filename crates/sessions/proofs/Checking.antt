@@ -1,5 +1,5 @@
 -- The checks of a step one by one, and what a label's answers mean for a step, a look and a judgement.
-use Rattle.std.proofs.Common.{◌≡◌, ℕ, ◌<◌, ◌≤◌, Bool, true, false, cond, not, ltb, leb, is_ok, Some, None, Ok, Err, Option, Result, sym, refl, ap, ◌∙◌, subst, arith}
+use Rattle.std.proofs.Common.{◌≡◌, ℕ, ◌<◌, ◌≤◌, Bool, true, false, cond, not, ltb, leb, is_ok, Some, None, Ok, Err, Option, Result, sym, refl, ap, ◌∙◌, arith}
 use Rattle.std.proofs.lemmas.Bool.{le-leb, lt-leb, le-ltb, lt-ltb, leb-true, leb-false}
 use Rattle.std.specs.List.{slice_get}
 use Rattle.registers.specs.Meaning.{Meaning, size_of, limit_of}
@@ -14,7 +14,6 @@ use Rattle.labels.specs.declared.state.LabelState.{LabelState}
 use Rattle.labels.specs.Labels.{Label}
 use Rattle.labels.specs.Size.{size}
 use Rattle.labels.specs.LabelCalls.{state_of, known_to, progress_of, work_of, progress_answer, after_progress, idling_answer}
-use Rattle.sessions.specs.declared.step.Arguments.{Arguments}
 use Rattle.sessions.specs.declared.step.Step.{Step}
 use Rattle.sessions.specs.declared.look.Look.{Look}
 use Rattle.sessions.specs.declared.refusal.LookRefusal as look
@@ -23,7 +22,7 @@ use Rattle.sessions.specs.declared.refusal.StepRefusal.{StepRefusal}
 use Rattle.sessions.specs.declared.refusal.StepRefusal.TheVariants.{OtherJob, NoOperation, BadArgument, Need, TooManySteps, Full, TooMuchWork, TooLong}
 use Rattle.sessions.specs.declared.verdict.Judgement.TheVariants as judgement
 use Rattle.sessions.specs.Steps.{arguments_fit, first_failing, facts_after}
-use Rattle.sessions.specs.State.{State, World, step_on, advanced}
+use Rattle.sessions.specs.State.{State, World, step_on}
 use Rattle.sessions.specs.Checks.{refuse_if, refuse_need, checked_label, checked_limits, checked_operation, checked_number, checked, Ready}
 use Rattle.sessions.specs.Answers.{idles_by, look_answer, look_of, judgement_by, step_answer, step_after}
 use Rattle.sessions.specs.SessionView.{step_refusal_of}

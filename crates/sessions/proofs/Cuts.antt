@@ -1,14 +1,14 @@
 -- Cutting a list of calls changes nothing, if each piece begins with what stands there.
-use Rattle.std.proofs.Common.{◌≡◌, List, [], ◌∷◌, ◌++◌, map, length, Some, None, sym, refl, ap, ◌∙◌, subst, append-nil}
+use Rattle.std.proofs.Common.{◌≡◌, List, [], ◌∷◌, ◌++◌, map, length, Some, sym, refl, ap, ◌∙◌, subst, append-nil}
 use Rattle.std.specs.List.{slice_get}
 use Rattle.registers.specs.Meaning.{Meaning}
 use Rattle.goals.specs.declared.job.Job.{Job}
 use Rattle.sessions.specs.declared.verdict.Verdict.{Verdict}
 use Rattle.sessions.specs.declared.call.Call.{Call}
 use Rattle.sessions.specs.declared.call.Line.{Line}
-use Rattle.sessions.specs.State.{State, World}
+use Rattle.sessions.specs.State.{World}
 use Rattle.sessions.specs.Answers.{after_call, after_calls, answered, answer_to, calls_in, verdict_of}
-use Rattle.sessions.specs.Pieces.{Part, taken_up, after_part, state_after, parts_after, Joined, all_lines, last_facts, Uncut}
+use Rattle.sessions.specs.Pieces.{Part, taken_up, state_after, parts_after, Joined, all_lines, last_facts, Uncut}
 use Rattle.sessions.specs.Laws.{last_world, CuttingChangesNothing}
 
 calls-append : (xs ys : List Line) → calls_in (xs ++ ys) ≡ calls_in xs ++ calls_in ys

@@ -4,7 +4,7 @@ use Rattle.std.proofs.lemmas.List.{drop_all}
 use Rattle.std.specs.Option.{option_map}
 use Rattle.std.specs.List.{slice_get}
 use Rattle.registers.specs.Meaning.{Meaning}
-use Rattle.registers.proofs.ListLaws.{drop-at_index, drop_past, past_none}
+use Rattle.registers.proofs.ListLaws.{drop-at_index, past_none}
 use Rattle.goals.specs.declared.operation.Entry.{Entry}
 use Rattle.sessions.specs.declared.step.Arguments.{Arguments}
 use Rattle.sessions.specs.Steps.{need_holds, failing_from}

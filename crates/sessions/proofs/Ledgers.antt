@@ -1,5 +1,5 @@
 -- After any calls a session and its register stand as the ledger says, and each call was answered by what stood before it.
-use Rattle.std.proofs.Common.{◌≡◌, ℕ, suc, ◌+◌, Bool, true, false, cond, List, [], ◌∷◌, ◌++◌, length, Some, None, Ok, Err, Option, Result, sym, refl, ap, ◌∙◌, arith, length-append}
+use Rattle.std.proofs.Common.{◌≡◌, ℕ, suc, ◌+◌, true, false, cond, List, [], ◌∷◌, ◌++◌, length, Some, None, Ok, Err, Option, Result, sym, refl, ap, ◌∙◌, arith, length-append}
 use Rattle.std.specs.List.{slice_get}
 use Rattle.registers.specs.Meaning.{Meaning}
 use Rattle.goals.specs.declared.job.Job.{Job}
@@ -12,7 +12,7 @@ use Rattle.sessions.specs.declared.call.Call.{Call}
 use Rattle.sessions.specs.declared.call.Call as call
 use Rattle.sessions.specs.declared.call.Line.{Line}
 use Rattle.sessions.specs.Steps.{facts_after}
-use Rattle.sessions.specs.State.{State, World, is_false, broken_after, opened}
+use Rattle.sessions.specs.State.{World, is_false, broken_after, opened}
 use Rattle.sessions.specs.Answers.{step_after, after_call, after_calls, answered, answer_to, calls_in}
 use Rattle.sessions.specs.Ledger.{Ledger, opening, count, checked_by, entered, entered_call, ledger_from, ledger, new_label, new_labels, labels_from, first_false, broken_step, world_by, standing}
 

@@ -1,12 +1,11 @@
 -- The accepted steps of a list of calls as a run of labels, and the law of a session's calls from the claims about labels.
-use Rattle.std.proofs.Common.{◌≡◌, ℕ, Bool, true, false, cond, T, ◌↔◌, List, [], ◌∷◌, ◌++◌, length, Some, None, Ok, Err, Result, sym, refl, ap, ◌∙◌, subst, arith}
+use Rattle.std.proofs.Common.{◌≡◌, ℕ, Bool, true, false, cond, T, ◌↔◌, List, [], ◌∷◌, ◌++◌, length, Some, Ok, Err, Result, sym, refl, ap, ◌∙◌, subst, arith}
 use mathlib.Core.Logic.Iff
 use Rattle.std.specs.List.{slice_get}
 use Rattle.registers.specs.Meaning.{Meaning}
 use Rattle.goals.specs.declared.job.Job.{Job}
 use Rattle.goals.specs.declared.operation.Operation.{Operation}
 use Rattle.goals.specs.JobView.{ids_of, nodes_of, root_of, SoundJob}
-use Rattle.labels.specs.Labels.{Label}
 use Rattle.labels.specs.Held.{facts_of}
 use Rattle.labels.specs.LabelCalls.{opening_of, known_to, progress_of}
 use Rattle.labels.specs.Idling.{idling}
@@ -23,9 +22,9 @@ use Rattle.sessions.specs.declared.call.Call.{Call}
 use Rattle.sessions.specs.declared.call.Call as call
 use Rattle.sessions.specs.declared.call.Line.{Line}
 use Rattle.sessions.specs.Steps.{facts_after}
-use Rattle.sessions.specs.State.{State, World, opened}
+use Rattle.sessions.specs.State.{World, opened}
 use Rattle.sessions.specs.Answers.{after_calls, answered, answer_to, calls_in, idles_by, idles_at, judgement_of, verdict_of}
-use Rattle.sessions.specs.Ledger.{Ledger, opening, checked_by, entered, entered_call, ledger_from, ledger, broken_step, standing}
+use Rattle.sessions.specs.Ledger.{Ledger, opening, checked_by, entered, entered_call, ledger_from, ledger, standing}
 use Rattle.sessions.specs.Laws.{KeepsGoal, KeepsLabel, ModelKeeps, StandsFor, Law}
 use Rattle.sessions.proofs.Ledgers.{session_stands, answered-at, answered-length}
 

@@ -1,6 +1,6 @@
 -- What each call on a session answers and leaves, what a list of calls does, and what closing tells.
 -- Refused steps and all looks change nothing.
-use Rattle.std.specs.Prelude.{ℕ, Bool, true, false, cond, List, [], ◌∷◌, map, Some, None, Ok, Err, Option, Result}
+use Rattle.std.specs.Prelude.{Bool, cond, List, [], ◌∷◌, map, Some, Ok, Err, Result}
 use Rattle.registers.specs.Meaning.{Meaning}
 use Rattle.goals.specs.declared.job.Job.{Job}
 use Rattle.goals.specs.declared.operation.Operation.{Operation}
@@ -24,7 +24,7 @@ use Rattle.sessions.specs.declared.call.Call as call
 use Rattle.sessions.specs.declared.call.Answer.{Answer}
 use Rattle.sessions.specs.declared.call.Answer.TheVariants.{Stepped, Seen}
 use Rattle.sessions.specs.declared.call.Line.{Line}
-use Rattle.sessions.specs.State.{State, World, advanced}
+use Rattle.sessions.specs.State.{World, advanced}
 use Rattle.sessions.specs.Checks.{checked}
 
 -- does idling now keep the label?

@@ -1,6 +1,6 @@
 -- The law of a session's calls, from opening to closing, in terms of timed sequences and the ledger.
 -- A model of the accepted steps is their states, then copies of the last for ever, one hour apart.
-use Rattle.std.specs.Prelude.{◌≡◌, ℕ, true, ◌↔◌, List, [], ◌∷◌, ◌++◌, length, Some, None}
+use Rattle.std.specs.Prelude.{◌≡◌, ℕ, true, ◌↔◌, List, ◌∷◌, ◌++◌, length, Some}
 use Rattle.std.specs.List.{slice_get}
 use Rattle.registers.specs.Meaning.{Meaning}
 use Rattle.goals.specs.declared.job.Job.{Job}
@@ -15,7 +15,7 @@ use Rattle.labels.specs.Truth.{GoalTrue, LabelTrue}
 use Rattle.sessions.specs.declared.verdict.Judgement.TheVariants.{Kept, NotKept}
 use Rattle.sessions.specs.declared.verdict.Verdict.{Verdict}
 use Rattle.sessions.specs.declared.call.Line.{Line}
-use Rattle.sessions.specs.State.{State, World, opened_state, opened}
+use Rattle.sessions.specs.State.{State, World, opened}
 use Rattle.sessions.specs.Answers.{calls_in, answer_to, verdict_of}
 use Rattle.sessions.specs.Ledger.{Ledger, count, ledger, broken_step, standing}
 use Rattle.sessions.specs.Pieces.{Part, state_after, parts_after, Joined, all_lines, last_facts, Uncut}
@@ -65,20 +65,6 @@ pub record Law (job : Job) (m : Meaning) (before after : List Line) (last : Worl
 -- what stands at the end over the last piece's register
 abbrev pub closing_world : State → Part → List Part → World
 closing_world s q qs = record { state = s; facts = last_facts q.facts qs }
-
--- a schedule that was opened, run in the pieces p and ps, each over its own register, and closed: what the pieces are
--- afterwards, what is left of the session, and the verdict
-pub record Ran (job : Job) (p : Part) (ps : List Part) (q : Part) (qs : List Part) (last : State) (verdict : Verdict) : Type 0 where
-  -- every call was made where the calls before it led, over the register of its piece
-  pub state : last ≡ state_after job (opened_state job) (p ∷ ps)
-  pub parts : ◌≡◌ {A = List Part} (q ∷ qs) (parts_after job (opened_state job) (p ∷ ps))
-  -- the verdict is over the last piece's register
-  pub closed : verdict ≡ verdict_of job (closing_world last q qs)
-  -- if each piece began with the facts and the limit that stood there, the law holds, and the cuts changed nothing
-  pub law : Joined job (opened job p.facts) (p ∷ ps) →
-      Law job p.facts (all_lines (p ∷ ps)) (all_lines (q ∷ qs)) (closing_world last q qs) verdict
-  pub cut : Joined job (opened job p.facts) (p ∷ ps) →
-      Uncut job (opened job p.facts) (p ∷ ps) (q ∷ qs) (closing_world last q qs) verdict
 
 -- what stands when pieces were run, over the last register
 abbrev pub last_world : Job → World → List Part → World

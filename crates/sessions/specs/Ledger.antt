@@ -1,6 +1,6 @@
 -- The ledger of a session: the states passed, the present facts and hour, and the label.
 -- It is fed a job, what the opening register means, and the steps and looks alone: it sees no cuts.
-use Rattle.std.specs.Prelude.{ℕ, ◌+◌, Bool, cond, List, [], ◌∷◌, ◌++◌, length, Some, None, Ok, Err, Option, Result}
+use Rattle.std.specs.Prelude.{ℕ, ◌+◌, cond, List, [], ◌∷◌, ◌++◌, length, Some, None, Ok, Err, Option, Result}
 use Rattle.registers.specs.Meaning.{Meaning}
 use Rattle.goals.specs.declared.job.Job.{Job}
 use Rattle.goals.specs.declared.operation.Operation.{Operation}
@@ -14,7 +14,7 @@ use Rattle.sessions.specs.declared.refusal.StepRefusal.{StepRefusal}
 use Rattle.sessions.specs.declared.call.Call.{Call}
 use Rattle.sessions.specs.declared.call.Call as call
 use Rattle.sessions.specs.Steps.{facts_after}
-use Rattle.sessions.specs.State.{State, World, is_false}
+use Rattle.sessions.specs.State.{World, is_false}
 use Rattle.sessions.specs.Checks.{checked}
 
 pub record Ledger : Type 0 where

@@ -6,4 +6,5 @@ pub mod Answers
 pub mod Ledger
 pub mod Pieces
 pub mod Laws
+pub mod Report
 pub mod SessionView

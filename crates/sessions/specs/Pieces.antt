@@ -6,7 +6,7 @@ use Rattle.registers.specs.Meaning.{Meaning}
 use Rattle.goals.specs.declared.job.Job.{Job}
 use Rattle.sessions.specs.declared.verdict.Verdict.{Verdict}
 use Rattle.sessions.specs.declared.call.Line.{Line}
-use Rattle.sessions.specs.State.{State, World, opened}
+use Rattle.sessions.specs.State.{State, World}
 use Rattle.sessions.specs.Answers.{calls_in, after_calls, answered, verdict_of}
 
 -- what a piece's register means, and the calls over it

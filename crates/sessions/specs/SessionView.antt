@@ -1,6 +1,5 @@
 -- What a session, a note and what is left of a closed session stand for.
 -- A step is refused for its label as the label refuses to progress.
-use Rattle.std.specs.Prelude.{ℕ}
 use Rattle.registers.specs.Meaning.{Meaning}
 use Rattle.labels.specs.declared.refusal.LabelRefusal.{LabelRefusal}
 use Rattle.labels.specs.declared.refusal.LabelRefusal as label

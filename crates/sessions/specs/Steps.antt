@@ -1,6 +1,6 @@
 -- A step's operation under its arguments: the facts it names, the needs that do not hold, and the facts after it.
 -- The facts after a step are those before, without its takes, then with its puts.
-use Rattle.std.specs.Prelude.{ℕ, ◌+◌, Bool, true, false, cond, not, ◌&&◌, List, [], ◌∷◌, map, Some, None, Option, ◌==◌, nat_lt}
+use Rattle.std.specs.Prelude.{ℕ, ◌+◌, Bool, cond, not, ◌&&◌, List, [], ◌∷◌, map, Some, None, Option, ◌==◌, nat_lt}
 use Rattle.registers.specs.declared.fact.Fact.{Fact}
 use Rattle.registers.specs.Meaning.{Meaning, has, excluding, including_all}
 use Rattle.goals.specs.declared.operation.EntryTerm.{EntryTerm}

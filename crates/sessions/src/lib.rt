@@ -1,4 +1,6 @@
 // Sessions: steps and looks on a job over a register, laid aside, taken up and closed.
+#![tactic(auto)]
+
 pub mod answer;
 pub mod call;
 mod change;

@@ -1,10 +1,10 @@
-use Rattle.std.proofs.Common.{◌≡◌, ◌+◌, ◌≤◌, sym, ap, ◌∙◌, arith}
+use Rattle.std.proofs.Common.{◌+◌, sym, ap, ◌∙◌, arith}
 use Rattle.std.proofs.lemmas.List.{take_all}
 use Rattle.registers.specs.Meaning.{size_of, including_all}
 use Rattle.registers.proofs.ListLaws.{including-none, new-more, held_more, listed-before-more, take_past}
 use Rattle.sessions.specs.Steps.{excluding_all}
 use Rattle.sessions.proofs.change.count_new.Goals as goal
-use Rattle.sessions.proofs.change.count_new.Goals.{in-Some+then-not-stays+then-not-is-before, in-Some+else-not-stays, else-not-stays-via-then-not-stays+else-not-is-before, else-not-stays-via-else-not-stays, in-default}
+use Rattle.sessions.proofs.change.count_new.Goals.{in-Some+then-not-stays+then-not-is_before, in-Some+else-not-stays, else-not-stays-via-then-not-stays+else-not-is_before, else-not-stays-via-else-not-stays, in_default}
 
 pub loop-k-init : goal.loop-k-init
 loop-k-init g c =
@@ -16,24 +16,24 @@ loop-k-preserved g c =
     let m = excluding_all (g.R.Register.meaning c.args.register.now) (g.S.FactList.listed c.args.takes.now) in
     let fs = g.L.FactList.listed c.args.puts.now in
     elim c.match-get.branch [
-      | in-Some+then-not-stays+then-not-is-before w ↦ (
+      | in-Some+then-not-stays+then-not-is_before w ↦ (
         ap (λ n. size_of m + n) w.new-is
-            ∙ new-more m fs c.loop-k.k c.loop-k.new w.in-Some.fact c.requires w.in-Some.ensures c.loop-k.invariant.0 (sym w.if-not-stays.ensures) (sym w.if-not-is-before.ensures),
+            ∙ new-more m fs c.loop-k.k c.loop-k.new w.in-Some.fact c.requires w.in-Some.ensures c.loop-k.invariant.0 (sym w.if-not-stays.ensures) (sym w.if-not-is_before.ensures),
         omega (arith, w.new-is, c.loop-k.invariant.1),
       )
       | in-Some+else-not-stays w ↦ (
         ap (λ n. size_of m + n) w.new-is
             ∙ elim w.else-not-stays.branch [
-              | else-not-stays-via-then-not-stays+else-not-is-before v ↦
-                  listed-before-more m fs c.loop-k.k c.loop-k.new w.in-Some.fact w.in-Some.ensures c.loop-k.invariant.0 (sym v.if-not-is-before.ensures)
+              | else-not-stays-via-then-not-stays+else-not-is_before v ↦
+                  listed-before-more m fs c.loop-k.k c.loop-k.new w.in-Some.fact w.in-Some.ensures c.loop-k.invariant.0 (sym v.if-not-is_before.ensures)
               | else-not-stays-via-else-not-stays v ↦
                   held_more m fs c.loop-k.k c.loop-k.new w.in-Some.fact w.in-Some.ensures c.loop-k.invariant.0 (sym v.if-not-stays.ensures)
             ],
         omega (arith, w.new-is, c.loop-k.invariant.1),
       )
-      | in-default w ↦ (
+      | in_default w ↦ (
         ap (λ n. size_of m + n) w.new-is
-            ∙ (c.loop-k.invariant.0 ∙ ap (λ t. size_of (including_all m t)) (sym (take_past fs c.loop-k.k w.in-default.ensures))),
+            ∙ (c.loop-k.invariant.0 ∙ ap (λ t. size_of (including_all m t)) (sym (take_past fs c.loop-k.k w.in_default.ensures))),
         omega (arith, w.new-is, c.loop-k.invariant.1),
       )
     ]

@@ -22,6 +22,6 @@ returns g c =
       state = state-is job p q ps qs s₀ s₁ s₂ v e₀ e₁ eq e₂ ev;
       parts = parts_are job p q ps qs s₀ s₁ s₂ v e₀ e₁ eq e₂ ev;
       closed = verdict_is job p q ps qs s₀ s₁ s₂ v e₀ e₁ eq e₂ ev;
-      law = keeps-law job p q ps qs s₀ s₁ s₂ v e₀ e₁ eq e₂ ev c.runs-keep-the-law.ensures c.ids-ids.ensures.sound;
+      law = keeps-law job p q ps qs s₀ s₁ s₂ v e₀ e₁ eq e₂ ev c.runs_keep_the_law.ensures c.ids-ids.ensures.sound;
       cut = is_uncut job p q ps qs s₀ s₁ s₂ v e₀ e₁ eq e₂ ev;
     }

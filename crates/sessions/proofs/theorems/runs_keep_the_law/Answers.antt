@@ -7,10 +7,10 @@ use Rattle.sessions.proofs.theorems.runs_keep_the_law.Goals as goal
 pub returns : goal.returns
 returns c =
     let promised : Promised = record {
-      stands = c.label-stands-for-goal.ensures;
-      timed = c.runs-are-timed.ensures;
-      judges = c.idling-judges-the-model.ensures;
-      known = c.labels-stay-known.ensures;
+      stands = c.label_stands_for_goal.ensures;
+      timed = c.runs_are_timed.ensures;
+      judges = c.idling_judges_the_model.ensures;
+      known = c.labels_stay_known.ensures;
     } in
     λ job sound m ps joined.
     let u = cutting job (opened job m) ps joined in

@@ -8,7 +8,7 @@ use Rattle.sessions.proofs.ground.GroundFactList.get.Goals as goal
 pub returns-in-Some : goal.returns-in-Some
 returns-in-Some c =
     let self = c.args.self.now in
-    ap Some c.fact-of.ensures
+    ap Some c.fact_of.ensures
     ∙ (ap (option_map (ground self.arguments)) c.in-Some.ensures ∙ nth_each (ground self.arguments) (entries_of self.entries) c.args.index)
 
 pub returns-in-None : goal.returns-in-None

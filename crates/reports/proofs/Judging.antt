@@ -1,5 +1,5 @@
 -- What a report ends with tells of the model and of the first FALSE label.
-use Rattle.std.proofs.Common.{◌≡◌, ℕ, Bool, true, false, cond, ◌⊎◌, ◌↔◌, List, [], ◌∷◌, ◌++◌, Some, None, Ok, Err, Option, Result, sym, refl, ap, ◌∙◌, subst, inl, inr, ⊎_elim, append-nil, arith}
+use Rattle.std.proofs.Common.{◌≡◌, ℕ, true, false, cond, ◌⊎◌, ◌↔◌, List, [], ◌∷◌, ◌++◌, Some, None, Ok, Err, Option, Result, sym, refl, ap, ◌∙◌, subst, inl, inr, ⊎_elim, append-nil, arith}
 use Rattle.registers.specs.Meaning.{Meaning}
 use Rattle.goals.specs.declared.time.Span.{Span}
 use Rattle.goals.specs.declared.job.Job.{Job}
@@ -7,7 +7,7 @@ use Rattle.goals.specs.declared.operation.Operation.{Operation}
 use Rattle.labels.specs.Labels.{Label, true_label, false_label, pending, not_label, and_label, or_label}
 use Rattle.labels.specs.Progress.{progressed}
 use Rattle.labels.specs.Idling.{idling}
-use Rattle.labels.specs.LabelCalls.{progress_of, known_to, state_of}
+use Rattle.labels.specs.LabelCalls.{progress_of, known_to}
 use Rattle.sessions.specs.declared.step.Step.{Step}
 use Rattle.sessions.specs.declared.step.Arguments.{Arguments}
 use Rattle.sessions.specs.declared.refusal.StepRefusal.{StepRefusal}
@@ -18,7 +18,7 @@ use Rattle.sessions.specs.declared.call.Call.{Call}
 use Rattle.sessions.specs.declared.call.Call as call
 use Rattle.sessions.specs.declared.call.Line.{Line}
 use Rattle.sessions.specs.Refusals.{step_number}
-use Rattle.sessions.specs.State.{State, World, opened, advanced, is_false, broken_after, broken_by}
+use Rattle.sessions.specs.State.{World, opened, advanced, is_false, broken_after}
 use Rattle.sessions.specs.Answers.{checked_at, step_after, after_call, after_calls, calls_in, idles_by, judgement_by, verdict_of}
 use Rattle.sessions.specs.Ledger.{Ledger, opening, ledger_from, ledger, entered_call, labels_from, new_labels, first_false, broken_step}
 use Rattle.sessions.specs.Pieces.{Joined, all_lines}

@@ -1,5 +1,5 @@
 -- The text of a schedule's answers is its report.
-use Rattle.std.proofs.Common.{◌≡◌, ℕ, Bool, true, false, cond, List, [], ◌∷◌, ◌++◌, length, Some, Ok, Err, Result, sym, refl, ap, ◌∙◌, subst, append_assoc, append-nil, arith}
+use Rattle.std.proofs.Common.{◌≡◌, ℕ, Bool, true, cond, List, [], ◌∷◌, ◌++◌, length, Some, Ok, Err, Result, sym, refl, ap, ◌∙◌, subst, append_assoc, append-nil, arith}
 use Rattle.registers.specs.Meaning.{Meaning}
 use Rattle.goals.specs.declared.time.Span.{Span}
 use Rattle.goals.specs.declared.job.Job.{Job}
@@ -16,7 +16,7 @@ use Rattle.sessions.specs.declared.verdict.Verdict.{Verdict}
 use Rattle.sessions.specs.declared.call.Call as call
 use Rattle.sessions.specs.declared.call.Answer.TheVariants.{Stepped, Seen}
 use Rattle.sessions.specs.declared.call.Line.{Line}
-use Rattle.sessions.specs.State.{State, World, opened, advanced}
+use Rattle.sessions.specs.State.{World, opened, advanced}
 use Rattle.sessions.specs.Refusals.{step_number}
 use Rattle.sessions.specs.Answers.{checked_at, step_answer, step_after, look_of, calls_in, after_calls, answered, verdict_of}
 use Rattle.sessions.specs.Pieces.{Joined, all_lines, Uncut}

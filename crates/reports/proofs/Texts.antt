@@ -1,5 +1,5 @@
 -- What is written piece by piece is the whole: numbers digit by digit, and lines.
-use Rattle.std.proofs.Common.{◌≡◌, ℕ, ◌+◌, ◌/◌, ◌%◌, ◌^◌, ◌<◌, ◌≤◌, List, [], ◌∷◌, ◌++◌, length, codes, decimal, sym, refl, ap, ◌∙◌, append_assoc, mod-eq_of_lt, arith, length-append}
+use Rattle.std.proofs.Common.{◌≡◌, ℕ, ◌+◌, ◌/◌, ◌%◌, ◌^◌, ◌<◌, ◌≤◌, List, [], ◌∷◌, ◌++◌, length, codes, decimal, sym, ap, ◌∙◌, append_assoc, mod-eq_of_lt, arith, length-append}
 use Rattle.labels.specs.declared.state.LabelState.{LabelState}
 use Rattle.reports.specs.declared.ending.Ending.{Ending}
 use Rattle.reports.specs.declared.ending.Ending.TheVariants.{Kept, NotKept, Broken, Refused}

@@ -1,6 +1,5 @@
 -- The steps of an edition file, and the calls that a report makes: a look at the opening, then each step with a look behind it.
 use Rattle.std.specs.Prelude.{ℕ, zero, suc, ◌+◌, List, [], ◌∷◌, None}
-use Rattle.goals.specs.declared.frame.Frame.{Frame}
 use Rattle.goals.specs.Bytes.{byte_at}
 use Rattle.goals.specs.Frame.{frame_of}
 use Rattle.sessions.specs.declared.step.Step.{Step}

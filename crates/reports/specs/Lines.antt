@@ -8,7 +8,7 @@ use Rattle.labels.specs.LabelCalls.{state_of}
 use Rattle.sessions.specs.declared.look.Look.{Look}
 use Rattle.sessions.specs.declared.verdict.Judgement.{Judgement}
 use Rattle.sessions.specs.declared.verdict.Judgement as judgement
-use Rattle.sessions.specs.State.{State, World}
+use Rattle.sessions.specs.State.{World}
 use Rattle.reports.specs.declared.ending.Ending.{Ending}
 use Rattle.reports.specs.declared.ending.Ending.TheVariants.{Kept, NotKept, Broken, Refused}
 

@@ -5,7 +5,7 @@ use Rattle.registers.specs.Meaning.{Meaning}
 use Rattle.goals.specs.declared.job.Job.{Job}
 use Rattle.sessions.specs.declared.step.Step.{Step}
 use Rattle.sessions.specs.Refusals.{step_number}
-use Rattle.sessions.specs.State.{State, World, opened, advanced}
+use Rattle.sessions.specs.State.{World, opened, advanced}
 use Rattle.sessions.specs.Answers.{checked_at, verdict_of}
 use Rattle.reports.specs.declared.ending.Ending.{Ending}
 use Rattle.reports.specs.declared.ending.Ending.TheVariants.{Refused}

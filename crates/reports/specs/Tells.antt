@@ -7,9 +7,9 @@ use Rattle.goals.specs.declared.operation.Operation.{Operation}
 use Rattle.sessions.specs.declared.step.Step.{Step}
 use Rattle.sessions.specs.declared.call.Call.{Call}
 use Rattle.sessions.specs.declared.call.Call as call
-use Rattle.sessions.specs.State.{State, World, opened, advanced}
+use Rattle.sessions.specs.State.{World, opened, advanced}
 use Rattle.sessions.specs.Answers.{checked_at}
-use Rattle.sessions.specs.Ledger.{Ledger, ledger, broken_step}
+use Rattle.sessions.specs.Ledger.{ledger, broken_step}
 use Rattle.sessions.specs.Laws.{ModelKeeps}
 use Rattle.reports.specs.declared.ending.Ending.{Ending}
 use Rattle.reports.specs.declared.ending.Ending.TheVariants.{Kept, NotKept, Broken}

@@ -1,4 +1,6 @@
 // Reports of edition files: the file is read, its schedule is run, and the answers are written out as text.
+#![tactic(auto)]
+
 mod answers;
 mod calls;
 pub mod ending;

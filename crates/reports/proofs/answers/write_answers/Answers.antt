@@ -3,13 +3,13 @@ use Rattle.std.proofs.lemmas.Result.{err_from_is_err_and}
 use Rattle.reports.proofs.Writing.{blank, text_turn, end_turn, text_stop, end_stop, text_end, end-end}
 use Rattle.reports.proofs.answers.write_answers.Goals as goal
 
-pub returns-in-err-write-answer : goal.returns-in-err-write-answer
-returns-in-err-write-answer c =
-    let p = err_from_is_err_and c.from-residual.result c.from-residual.ensures.1 in
-    let told = c.in-err-write-answer.ensures in
+pub returns-in_err-write_answer : goal.returns-in_err-write_answer
+returns-in_err-write_answer c =
+    let p = err_from_is_err_and c.from_residual.result c.from_residual.ensures.1 in
+    let told = c.in_err-write_answer.ensures in
     let ls = c.args.lines.now in
     let i = c.loop-line.line-index in
-    let n = c.in-err-write-answer.field-0.0 in
+    let n = c.in_err-write_answer.field-0.0 in
     record {
       items = sym (c.loop-line.invariant.0 ∙ text_stop ls i blank c.loop-line-test.true n (vec_items c.loop-line.text) _ told.refusal told.items);
       end = p.1 ∙ (ap Err p.2 ∙ sym (c.loop-line.invariant.1 ∙ end_stop ls i blank c.loop-line-test.true n told.refusal));
@@ -18,7 +18,7 @@ returns-in-err-write-answer c =
 
 pub loop-line-preserved : goal.loop-line-preserved
 loop-line-preserved c =
-    let told = c.in-ok-write-answer.ensures in
+    let told = c.in_ok-write_answer.ensures in
     let ls = c.args.lines.now in
     let i = c.loop-line.line-index in (
       c.loop-line.invariant.0 ∙ text_turn ls i blank c.loop-line-test.true _ (vec_items c.loop-line.text) _ told.refusal told.items,

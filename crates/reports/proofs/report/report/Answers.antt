@@ -12,8 +12,8 @@ returns g c =
             outcome = Ok w.in-Ok.job;
             filled = g.R.Register.meaning c.fill.new.register;
             reading = w.in-Ok.ensures;
-            written = ap vec_items w.text-is ∙ w.report-steps.ensures.text;
-            tells = w.report-steps.ensures.tells;
+            written = ap vec_items w.text-is ∙ w.report_steps.ensures.text;
+            tells = w.report_steps.ensures.tells;
           }
       | in-Err w ↦
           record {
@@ -23,7 +23,7 @@ returns g c =
             written =
                 ap vec_items w.text-is
                 ∙ refusal_written w.number.result (fill_number w.in-Err.fault) (vec_items c.args.room.text) _
-                (omega (arith, c.args.room.text.ok.0, c.args.room.blank)) w.number.ensures w.write-ending.ensures;
+                (omega (arith, c.args.room.text.ok.0, c.args.room.blank)) w.number.ensures w.write_ending.ensures;
             tells = tt;
           }
     ]

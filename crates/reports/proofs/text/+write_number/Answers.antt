@@ -3,17 +3,17 @@ use Rattle.reports.proofs.Texts.{length_digit, length-step, items_digit, items-s
 use Rattle.reports.proofs.text.+write_number.Goals as goal
 use Rattle.reports.proofs.text.+write_number.Goals.{then-number-ge10, else-number-ge10}
 
-pub write-number-requires : goal.write-number-requires
-write-number-requires t c =
+pub write_number-requires : goal.write_number-requires
+write_number-requires t c =
     let small : c.args.number < 2 ^ 64 = omega arith in
     (omega arith, omega (arith, length-step c.args.number c.if-number-ge10.true small))
 
-pub push-reserved-requires : goal.push-reserved-requires
-push-reserved-requires t c =
+pub push_reserved-requires : goal.push_reserved-requires
+push_reserved-requires t c =
     let small : c.args.number < 2 ^ 64 = omega arith in
     elim c.if-number-ge10.branch [
       | then-number-ge10 w ↦
-          omega (arith, ap vec_len w.text-is, ap vec_capacity w.text-is, w.write-number.ensures.len, w.write-number.ensures.room, length-step c.args.number w.if-number-ge10.true small)
+          omega (arith, ap vec_len w.text-is, ap vec_capacity w.text-is, w.write_number.ensures.len, w.write_number.ensures.room, length-step c.args.number w.if-number-ge10.true small)
       | else-number-ge10 w ↦
           omega (arith, ap vec_len w.text-is, ap vec_capacity w.text-is, length_digit c.args.number w.if-number-ge10.false)
     ]
@@ -21,11 +21,11 @@ push-reserved-requires t c =
 pub returns : goal.returns
 returns t c =
     let small : c.args.number < 2 ^ 64 = omega arith in
-    let more = c.push-reserved.ensures in
+    let more = c.push_reserved.ensures in
     elim c.if-number-ge10.branch [
       | then-number-ge10 w ↦
           let few = length-step c.args.number w.if-number-ge10.true small in
-          let front = w.write-number.ensures in
+          let front = w.write_number.ensures in
           record {
             items = items-step _ _ _ c.args.number w.if-number-ge10.true small (ap vec_items w.text-is ∙ front.items) more.items;
             len = omega (arith, ap vec_len w.text-is, front.len, more.len, few);

@@ -1,5 +1,8 @@
 #!/usr/bin/env python3
-"""Are the example files the ones that tools/edition_file.py writes, has each a stored report, and does edition_cases run them all?"""
+"""Are the example files the ones that tools/edition_file.py writes, has each a stored report, and does edition_cases run them all?
+
+The files stand twice: in examples/ for readers, and in the folder from which the program edition_cases reads them.
+"""
 import pathlib
 import subprocess
 import sys
@@ -7,6 +10,10 @@ import tempfile
 
 ROOT = pathlib.Path(__file__).resolve().parent.parent
 CASES = ROOT / "crates/edition_cases"
+
+
+def contents(folder):
+    return {p.name: p.read_bytes() for p in pathlib.Path(folder).iterdir()}
 
 
 def main():
@@ -19,6 +26,8 @@ def main():
         sys.exit("the example files are not what tools/edition_file.py writes")
     if reports != set(kept):
         sys.exit(f"examples without a report, or reports without an example: {reports ^ set(kept)}")
+    if contents(ROOT / "examples") != contents(CASES / "data"):
+        sys.exit("examples/ and crates/edition_cases/data differ")
     if (CASES / "args").read_text().split() != sorted(kept):
         sys.exit("crates/edition_cases/args does not name every example file in order")
     if (ROOT / "crates/edition/stdin").read_bytes() not in kept.values():

@@ -1,4 +1,6 @@
 // Reads an edition file from standard input and prints its report, over a grid that may hold every fact.
+#![tactic(auto)]
+
 use goals::frame::LONGEST_FILE;
 use registers::grid::Grid;
 use registers::register::Register;

@@ -1,4 +1,6 @@
 // Makes the report of each example file that an argument names, and tells whether it is the stored one.
+#![tactic(auto)]
+
 use registers::grid::Grid;
 use reports::report::report;
 use reports::room::ReportRoom;

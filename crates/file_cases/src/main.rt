@@ -1,4 +1,6 @@
 // Edition files at the edges of what is accepted, one printed line each: what the file is and what filling from it gave.
+#![tactic(auto)]
+
 mod build;
 mod catalogues;
 mod facts;

@@ -1,5 +1,7 @@
 // Times reading goal texts. With no argument each text is read and a check value printed;
 // with the argument `time` it is read several times, and the nanoseconds of the quickest run are printed too.
+#![tactic(auto)]
+
 mod workloads;
 
 use goals::predicate::Predicate;

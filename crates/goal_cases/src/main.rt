@@ -1,4 +1,6 @@
 // Reads each line of standard input as a goal text, and says how many nodes it has or how it is refused.
+#![tactic(auto)]
+
 use goals::goal::GoalRoom;
 use goals::goal_fault::GoalFault;
 use goals::predicate::Predicate;

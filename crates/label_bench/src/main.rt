@@ -1,6 +1,8 @@
 // Workloads of labels: runs of progress over large labels and large ranges. With no argument each is run once, and the size of the label
 // after each step and its last state are printed; with the argument `time` each is run several times, and the nanoseconds
 // that all steps of the quickest run take are printed too.
+#![tactic(auto)]
+
 mod edition;
 mod run;
 mod workloads;

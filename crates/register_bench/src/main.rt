@@ -1,5 +1,7 @@
 // Workloads of the two makes of register. With no argument each is run once and its check value printed;
 // with the argument `time` each is run several times, and the nanoseconds of the quickest run are printed too.
+#![tactic(auto)]
+
 mod workloads;
 
 use std::time::Instant;

@@ -1,4 +1,6 @@
 // Cases at the edges of both makes of register, one printed line each: what was asked and what came.
+#![tactic(auto)]
+
 mod edges;
 mod filled;
 mod lists;

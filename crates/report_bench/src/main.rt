@@ -1,6 +1,8 @@
 // Times the report of an edition file, which is read from standard input. It prints how long the report is and the sum of its
 // bytes modulo 65,536; with the argument `time` the report is made several times, and the nanoseconds of the quickest run are
 // printed too. The rooms are made before the clock starts.
+#![tactic(auto)]
+
 use registers::grid::Grid;
 use registers::register::Register;
 use reports::report::report;

@@ -3,12 +3,12 @@
 # Usage: bench/goals.sh   (needs rustc; builds the Rattle program first, if it is not built yet)
 set -euo pipefail
 cd "$(dirname "$0")/.."
-rt check goal_bench >/dev/null
 work=$(mktemp -d)
 trap 'rm -r "$work"' EXIT
+(cd crates/goal_bench && rt run) >"$work/rt.log" 2>&1 || { cat "$work/rt.log"; exit 1; }
 rustc -O --edition 2024 -o "$work/plain" bench/goals.rs 2>"$work/rustc.log" || { cat "$work/rustc.log"; exit 1; }
 for _ in 1 2 3; do
-    target/bin/goal_bench time >>"$work/rattle.txt"
+    crates/goal_bench/out/goal_bench time >>"$work/rattle.txt"
     "$work/plain" time >>"$work/rust.txt"
 done
 python3 - "$work/rattle.txt" "$work/rust.txt" <<'PYTHON'

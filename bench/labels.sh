@@ -4,12 +4,12 @@
 # Usage: bench/labels.sh   (needs rustc; builds the Rattle program first, if it is not built yet)
 set -euo pipefail
 cd "$(dirname "$0")/.."
-rt check label_bench >/dev/null
 work=$(mktemp -d)
 trap 'rm -r "$work"' EXIT
+(cd crates/label_bench && rt run) >"$work/rt.log" 2>&1 || { cat "$work/rt.log"; exit 1; }
 rustc -O --edition 2024 -o "$work/plain" bench/labels.rs 2>"$work/rustc.log" || { cat "$work/rustc.log"; exit 1; }
 for _ in 1 2 3; do
-    target/bin/label_bench time >>"$work/rattle.txt"
+    crates/label_bench/out/label_bench time >>"$work/rattle.txt"
     "$work/plain" time >>"$work/rust.txt"
     "$work/plain" time map >>"$work/map.txt"
 done

@@ -16,10 +16,11 @@ def main():
             case = pathlib.Path(folder) / file.stem
             shutil.copyfile(file, case)
             shutil.copyfile(file.with_suffix(".out"), case.with_suffix(".stdout"))
-        said = subprocess.run(["rt", "try", "--cases", folder], cwd=ROOT / "crates/edition", capture_output=True, text=True)
-    expected = said.stdout.count("status=0") == said.stdout.count("output=expected") == len(files)
-    if said.returncode != 0 or not expected:
-        print(said.stdout + said.stderr)
+        tried = subprocess.run(["rt", "try", "--cases", folder], cwd=ROOT / "crates/edition", capture_output=True, text=True)
+    said = tried.stdout + tried.stderr
+    expected = said.count(" status=0 ") == said.count(" output=expected ") == len(files)
+    if tried.returncode != 0 or not expected:
+        print(said)
         sys.exit("a report is not the stored one")
     print(f"{len(files)} examples are reported as stored")
 

@@ -1,6 +1,6 @@
 #!/usr/bin/env python3
 """Respells names of this repository's definitions and lemmas by the table respell.tsv beside this script: words in snake case, types in camel case.
-Usage: respell.py, at the top of a checkout in which the toolchain's own script has run. A second run changes nothing.
+Usage: respell.py, at the top of a checkout in which the toolchain's own script has run, once (docs/PORT.md).
 
 It turns whole words in the code of .antt and .rt files and of .edit files, in code spans of comments and of Markdown, and nowhere else.
 A name behind c., l., w., g. or goal. was made by the toolchain and stays, unless a row is marked as a member of a record."""

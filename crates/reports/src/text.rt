@@ -10,6 +10,9 @@ pub fn write_bytes(text: &mut Vec<u8>, bytes: &[u8])
     let _ = text.extend_from_slice(bytes);
 }
 
+// The least number that has two digits.
+const LEAST_OF_TWO_DIGITS: u64 = 10;
+
 // Writes a number in base ten at the end of a text that has room for it.
 pub fn write_number(text: &mut Vec<u8>, number: u64)
     requires { vec_len text.old + length (decimal number) ≤ vec_capacity text.old }
@@ -17,7 +20,7 @@ pub fn write_number(text: &mut Vec<u8>, number: u64)
     ensures len { vec_len text.new ≡ vec_len text.old + length (decimal number) }
     ensures room { vec_capacity text.old ≤ vec_capacity text.new }
 {
-    if number >= 10 {
+    if number >= LEAST_OF_TWO_DIGITS {
         write_number(text, number / 10);
     }
     text.push_reserved(b'0' + (number % 10) as u8);

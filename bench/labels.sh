@@ -7,7 +7,7 @@ cd "$(dirname "$0")/.."
 work=$(mktemp -d)
 trap 'rm -r "$work"' EXIT
 (cd crates/label_bench && rt run) >"$work/rt.log" 2>&1 || { cat "$work/rt.log"; exit 1; }
-rustc -O --edition 2024 -o "$work/plain" bench/labels.rs 2>"$work/rustc.log" || { cat "$work/rustc.log"; exit 1; }
+rustc -O -C target-cpu=x86-64-v2 --edition 2024 -o "$work/plain" bench/labels.rs 2>"$work/rustc.log" || { cat "$work/rustc.log"; exit 1; }
 for _ in 1 2 3; do
     crates/label_bench/out/label_bench time >>"$work/rattle.txt"
     "$work/plain" time >>"$work/rust.txt"

@@ -6,7 +6,7 @@ cd "$(dirname "$0")/.."
 work=$(mktemp -d)
 trap 'rm -r "$work"' EXIT
 (cd crates/report_bench && rt run <stdin) >"$work/rt.log" 2>&1 || { cat "$work/rt.log"; exit 1; }
-rustc -O --edition 2024 -o "$work/plain" bench/reports.rs 2>"$work/rustc.log" || { cat "$work/rustc.log"; exit 1; }
+rustc -O -C target-cpu=x86-64-v2 --edition 2024 -o "$work/plain" bench/reports.rs 2>"$work/rustc.log" || { cat "$work/rustc.log"; exit 1; }
 python3 bench/report_files.py "$work"
 printf '%-22s%10s%17s%17s%8s\n' 'report of' bytes Rattle Rust ratio
 for file in "$work"/*.edp; do

@@ -1,9 +1,10 @@
 -- What is written piece by piece is the whole: numbers digit by digit, and lines.
-use Rattle.std.proofs.Common.{◌≡◌, ℕ, ◌+◌, ◌/◌, ◌%◌, ◌^◌, ◌<◌, ◌≤◌, List, [], ◌∷◌, ◌++◌, length, codes, decimal, sym, ap, ◌∙◌, append_assoc, mod-eq_of_lt, arith, length-append}
+use Rattle.std.proofs.Common.{◌≡◌, ℕ, ◌+◌, ◌/◌, ◌%◌, ◌^◌, ◌<◌, ◌≤◌, List, [], ◌∷◌, ◌++◌, length, codes, decimal, sym, ap, ◌∙◌, append_assoc, mod-eq_of_lt, inl, inr, arith, length-append}
 use Rattle.labels.specs.declared.state.LabelState.{LabelState}
 use Rattle.reports.specs.declared.ending.Ending.{Ending}
 use Rattle.reports.specs.declared.ending.Ending.TheVariants.{Kept, NotKept, Broken, Refused}
 use Rattle.reports.specs.Lines.{line_feed, truth_word, field, line_by, numbered, ending_line}
+use Rattle.std.proofs.lemmas.Bool.{cases_lt}
 use Rattle.std.proofs.lemmas.Fmt.{decimal_digit, decimal_step, length-decimal-le}
 
 -- one digit
@@ -13,6 +14,14 @@ length_digit n h = ap length (decimal_digit n h)
 -- the digits before the last, and the last
 pub length-step : (n : ℕ) → 10 ≤ n → n < 2 ^ 64 → length (decimal n) ≡ length (decimal (n / 10)) + 1
 length-step n h small = ap length (decimal_step n h small) ∙ length-append (decimal (n / 10)) ((48 + n % 10) ∷ [])
+
+-- a number has a digit
+pub some_digit : (n : ℕ) → n < 2 ^ 64 → 1 ≤ length (decimal n)
+some_digit n small =
+    elim (cases_lt n 10) [
+      | inl h ↦ omega (arith, length_digit n h)
+      | inr h ↦ omega (arith, length-step n h small)
+    ]
 
 pub items_digit : (xs ys zs : List ℕ) (n : ℕ) → n < 10 → ys ≡ xs → zs ≡ ys ++ (48 + n % 10) ∷ [] → zs ≡ xs ++ decimal n
 items_digit xs ys zs n h ey ez =

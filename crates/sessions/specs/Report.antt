@@ -1,5 +1,6 @@
 -- The report of a schedule, as bytes: a line for the opening and for each step, then the verdict.
 -- A refusal ends the report with its number; every line ends with a line feed.
+-- No contract names these definitions. What the library call `report` promises is told by the definitions of the crate `reports`.
 use Rattle.std.specs.Prelude.{ℕ, List, [], ◌∷◌, ◌++◌, Some, None, Ok, Err, codes, decimal, Option}
 use Rattle.registers.specs.Meaning.{Meaning}
 use Rattle.goals.specs.declared.job.Job.{Job}

@@ -7,21 +7,21 @@ use crate::time::Span;
 use std::alloc::{AllocError, Global};
 
 // The two variables that may be bound around a node: by the outer and by the inner of two nested quantifiers.
-#[derive(Clone, Copy)]
+#[derive(Clone, Copy, PartialEq, Eq, Debug)]
 pub enum Variable {
     Outer,
     Inner,
 }
 
 // An id by its number, or the variable that stands for one.
-#[derive(Clone, Copy)]
+#[derive(Clone, Copy, PartialEq, Eq, Debug)]
 pub enum Term {
     Id(u16),
     Bound(Variable),
 }
 
 // A predicate of two terms; an unused term is the id 0.
-#[derive(Clone, Copy)]
+#[derive(Clone, Copy, PartialEq, Eq, Debug)]
 pub struct Atom {
     pub predicate: u8,
     pub first: Term,
@@ -29,14 +29,14 @@ pub struct Atom {
 }
 
 // An interval of spans; without an upper end it has none. With its fields in this order it is copied faster.
-#[derive(Clone, Copy)]
+#[derive(Clone, Copy, PartialEq, Eq, Debug)]
 pub struct Ends {
     pub upper: Option<Span>,
     pub lower: Span,
 }
 
 // A node of a goal, which names its parts by their numbers in the goal's table.
-#[derive(Clone, Copy)]
+#[derive(Clone, Copy, PartialEq, Eq, Debug)]
 pub enum Node {
     True,
     Test(Atom),

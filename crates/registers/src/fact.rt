@@ -2,7 +2,7 @@ ghost use Rattle.std.specs.Prelude.{◌≡◌};
 ghost use Rattle.registers.specs.Facts.{in_bounds, same_fact};
 
 // A predicate of two ids; a place that the predicate does not use holds 0.
-#[derive(Clone, Copy)]
+#[derive(Clone, Copy, PartialEq, Eq, Debug)]
 pub struct Fact {
     pub predicate: u8,
     pub first: u16,

@@ -8,7 +8,7 @@ use Rattle.std.proofs.lemmas.List.{get_or-replicate, get_or_default, get_or_past
 use Rattle.std.proofs.lemmas.Nat.{and_mask, pow_pos, pow-add, pow_below, shl-shr, shr-shr, or_shr, xor_shr, or_mod, xor_mod, shr_below, mod_below}
 use Rattle.std.proofs.lemmas.Bool.{cases_Bool, cases_lt, cases_eq, cases_order, both_ways, cond-true, cond-false, and_parts, and_from, and_right, and_cases, eqb-true, eq-eqb, ne_eqb, ltb-true, ltb-false, leb-false, lt-ltb}
 use Rattle.registers.specs.Facts.{one, sum_below, count_of, in_bounds, same_fact, changed}
-use Rattle.registers.specs.Meaning.{Lawful, has, size_of, limit_of, allowed, including, excluding, empty_of}
+use Rattle.registers.specs.Meaning.{has, size_of, limit_of, allowed, including, excluding, empty_of}
 use Rattle.registers.specs.Grid.{bit_of, bits_of, grid_facts, grid_meaning}
 use Rattle.registers.specs.declared.fact.Fact.{Fact}
 use Rattle.registers.proofs.Counts.{count_none, count-changed, sum_same, same_at, same_parts}
@@ -168,10 +168,6 @@ grid_count rows =
     sum_same 16 _ _ (λ p lp. sum_same 128 _ _ (λ a la. sum_same 128 _ _ (λ b lb.
     ap one (ap (λ t. t && bit_of (get_or rows (p * 128 + a) 0) b) (bounds-from p a b lp la lb)))))
     ∙ sum-blocks 16 128 (λ r. sum_below 128 (λ b. one (bit_of (get_or rows r 0) b)))
-
-pub grid_lawful : (rows : List ℕ) (limit : ℕ) → count_of (grid_facts rows) ≤ limit → Lawful (grid_meaning rows limit)
-unfolding grid_meaning grid_facts has size_of limit_of
-grid_lawful rows limit h = record { bounded = λ f e. (and_parts (allowed f) _ e).0; within = h }
 
 pub grid_has : (rows : List ℕ) (limit : ℕ) (f : Fact) → grid_facts rows f.predicate f.first f.second ≡ has (grid_meaning rows limit) f
 unfolding grid_meaning has

@@ -1,50 +1,53 @@
 -- What the list register's steps come to: a record found, one more, one fewer.
-use Rattle.std.proofs.Common.{◌≡◌, ℕ, zero, suc, ◌+◌, ◌-◌, ◌<◌, ◌≤◌, min, true, false, ◌||◌, List, [], ◌∷◌, ◌++◌, length, get_or, take, set, sym, refl, ap, ◌∙◌, ⊎_elim, arith, length-set, length-take-le, get_or-take}
+use Rattle.std.proofs.Common.{◌≡◌, ℕ, suc, Bool, cond, not, ltb, is_some, Some, None, ◌+◌, ◌-◌, ◌<◌, ◌≤◌, min, true, false, ◌||◌, List, [], ◌∷◌, ◌++◌, length, get_or, take, set, sym, refl, ap, ◌∙◌, ⊎_elim, arith, length-set, length-take-le, get_or-take}
 use lib.Seq.{take-set-lt}
 use Rattle.std.proofs.lemmas.List.{take_more, take_more_set, take-set}
-use Rattle.std.proofs.lemmas.Bool.{cases_eq, or_left, or_right, or_from}
+use Rattle.std.proofs.lemmas.Bool.{cases_eq, lt-ltb, le-ltb, ltb-true, ltb-false}
+use Rattle.std.specs.List.{position, position_or_len}
+use Rattle.std.proofs.lemmas.List.Quantifiers.{position-Some}
 use Rattle.registers.specs.Facts.{count_of}
-use Rattle.registers.specs.Meaning.{Lawful, has, size_of, limit_of, allowed, including, excluding, empty_of}
-use Rattle.registers.specs.Records.{listed, list_meaning}
+use Rattle.registers.specs.Meaning.{has, size_of, limit_of, allowed, including, excluding, empty_of}
+use Rattle.registers.specs.Records.{listed, list_meaning, is_record}
 use Rattle.registers.specs.declared.fact.Fact.{Fact}
 use Rattle.registers.proofs.Counts.{same_parts}
 use Rattle.registers.proofs.Members.{listed-bounded, same_of, listed_as, listed-push, listed_pushed, listed-set, count-push, Fewer, fewer}
 use Rattle.registers.proofs.Laws.{meaning_eq}
 
-pub listed_more : (table : List Fact) (i : ℕ) (d x : Fact) → i < length table →
-    listed_as (take i table) x ≡ false → same_of (get_or table i d) x.predicate x.first x.second ≡ false →
-    listed_as (take (i + 1) table) x ≡ false
-listed_more table i d x l m s =
-    ap (λ t. listed_as t x) (take_more table i d l)
-    ∙ (listed-push (get_or table i d) (take i table) x.predicate x.first x.second ∙ or_from _ _ s m)
+first_step : (b r : Bool) (a n : ℕ) → ltb a n ≡ r → ltb (cond (not b) (1 + a) 0) (suc n) ≡ (b || r)
+first_step true r a n e = lt-ltb 0 (suc n) (omega arith)
+first_step false true a n e = lt-ltb (1 + a) (suc n) (omega (arith, ltb-true a n e))
+first_step false false a n e = le-ltb (1 + a) (suc n) (omega (arith, ltb-false a n e))
 
-pub listed_at : (xs : List Fact) (i : ℕ) (d : Fact) (p a b : ℕ) → i < length xs → same_of (get_or xs i d) p a b ≡ true → listed xs p a b ≡ true
+first_in : (x : Fact) (ys : List Fact) → ltb (position_or_len (is_record x) ys) (length ys) ≡ listed_as ys x
 unfolding listed
-listed_at [] i d p a b l s = absurd (omega arith)
-listed_at (y ∷ ys) zero d p a b l s = or_left (same_of y p a b) (listed ys p a b) s
-listed_at (y ∷ ys) (suc i) d p a b l s = or_right (same_of y p a b) (listed ys p a b) (listed_at ys i d p a b (omega arith) s)
+first_in x [] = le-ltb 0 0 (omega arith)
+first_in x (y ∷ ys) = first_step (is_record x y) _ (position_or_len (is_record x) ys) (length ys) (first_in x ys)
 
-pub listed_found : (table : List Fact) (len i : ℕ) (d x : Fact) → len ≤ length table → i < len →
-    same_of (get_or table i d) x.predicate x.first x.second ≡ true → listed_as (take len table) x ≡ true
-listed_found table len i d x le l s =
-    let e : length (take len table) ≡ len = length-take-le len table le in
-    listed_at (take len table) i d x.predicate x.first x.second (omega arith)
-    (ap (λ t. same_of t x.predicate x.first x.second) (get_or-take len table i d l) ∙ s)
+is_some-cond : (b : Bool) (k : ℕ) → is_some (cond b (Some k) None) ≡ b
+is_some-cond true k = refl
+is_some-cond false k = refl
+
+-- a record is found exactly where the records name the fact
+pub found : (x : Fact) (xs : List Fact) → is_some (position (is_record x) xs) ≡ listed_as xs x
+found x xs = is_some-cond _ _ ∙ first_in x xs
 
 pub fact_eq : (x y : Fact) → same_of x y.predicate y.first y.second ≡ true → x ≡ y
 fact_eq x y s =
     let h = same_parts x.predicate x.first x.second y.predicate y.first y.second s in
     λ i. record { predicate = h.0 i; first = h.1 i; second = h.2 i }
 
-pub list_lawful : (table : List Fact) (len : ℕ) → len ≤ min (length table) 4096 → count_of (listed (take len table)) ≡ len →
-    Lawful (list_meaning table len)
-unfolding list_meaning has size_of limit_of
-list_lawful table len few apart =
-    record {
-      bounded =
-          λ f h. listed-bounded (take len table) (apart ∙ sym (length-take-le len table (omega arith))) f.predicate f.first f.second h;
-      within = omega arith;
-    }
+-- the record at the place found is the fact
+pub found_at : (table : List Fact) (len : ℕ) (x : Fact) (k : ℕ) (d : Fact) → len ≤ length table →
+    position (is_record x) (take len table) ≡ Some k → (k < len) × (get_or table k d ≡ x)
+found_at table len x k d le e =
+    let p = position-Some (is_record x) (take len table) k d e in
+    let l : k < len = omega (arith, p.0, length-take-le len table le) in
+    (l, sym (get_or-take len table k d l) ∙ fact_eq (get_or (take len table) k d) x p.1)
+
+pub list_bounded : (table : List Fact) (len : ℕ) → len ≤ min (length table) 4096 → count_of (listed (take len table)) ≡ len →
+    (f : Fact) → listed_as (take len table) f ≡ true → allowed f ≡ true
+list_bounded table len few apart f =
+    listed-bounded (take len table) (apart ∙ sym (length-take-le len table (omega arith))) f.predicate f.first f.second
 
 pub list_has : (table : List Fact) (len : ℕ) (x : Fact) → has (list_meaning table len) x ≡ listed_as (take len table) x
 unfolding list_meaning has

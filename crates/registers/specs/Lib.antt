@@ -4,3 +4,4 @@ pub mod Meaning
 pub mod Grid
 pub mod Records
 pub mod Calls
+pub mod Lawfulness

@@ -97,7 +97,11 @@ fn without_bit(row: u128, b: u16) -> u128
 }
 
 impl Register for Grid {
+    ghost use Rattle.registers.specs.Lawfulness.{grid_lawful};
+
     ghost meaning = { λ g. grid_meaning g.rows.items g.limit };
+
+    ghost lawful = { λ g. grid_lawful _ _ g.few };
 
     fn holds(&self, fact: Fact) -> bool {
         self.has(fact)

@@ -1,7 +1,7 @@
-ghost use Rattle.std.specs.Prelude.{◌≡◌, ℕ, ◌<◌, ◌≤◌, min, length, take, nat_lt, slice_index_or};
+ghost use Rattle.std.specs.Prelude.{◌≡◌, ℕ, ◌<◌, ◌≤◌, min, true, length, take, position};
 ghost use Rattle.registers.specs.Facts.{count_of};
-ghost use Rattle.registers.specs.Meaning.{empty_of, has, size_of};
-ghost use Rattle.registers.specs.Records.{listed, list_meaning};
+ghost use Rattle.registers.specs.Meaning.{allowed, empty_of, has, size_of};
+ghost use Rattle.registers.specs.Records.{listed, list_meaning, is_record};
 ghost use Rattle.registers.specs.declared.fact.Fact.{Fact};
 
 use crate::fact::Fact;
@@ -19,6 +19,7 @@ pub struct RecordList<'a> {
     len: usize,
     ghost few: { len ≤ min (length table.now) 4096 },
     ghost apart: { count_of (listed (take len table.now)) ≡ len },
+    ghost bounded: { (f : Fact) → listed (take len table.now) f.predicate f.first f.second ≡ true → allowed f ≡ true },
 }
 
 impl<'a> RecordList<'a> {
@@ -38,13 +39,11 @@ impl<'a> RecordList<'a> {
         &self.table[0..self.len]
     }
 
-    // Where the fact stands among the records, or their number.
-    fn place(&self, fact: Fact) -> usize
-        ensures within { result ≤ self.now.len }
-        ensures tells { listed (take self.now.len self.now.table.now) fact.predicate fact.first fact.second ≡ nat_lt result self.now.len }
-        ensures there { (d : Fact) → result < self.now.len → slice_index_or self.now.table.now result d ≡ fact }
+    // Where the fact stands among the records, if it does.
+    fn place(&self, fact: Fact) -> Option<usize>
+        ensures { result ≡ position (is_record fact) (take self.now.len self.now.table.now) }
     {
-        find(self.table, self.len, fact)
+        find(&self.table[..self.len], fact)
     }
 
     fn room(&self) -> usize
@@ -54,27 +53,22 @@ impl<'a> RecordList<'a> {
     }
 }
 
-// Where the fact stands among the first `len` records, or `len`.
-fn find(table: &[Fact], len: usize, fact: Fact) -> usize
-    requires { len ≤ length table.now }
-    ensures within { result ≤ len }
-    ensures tells { listed (take len table.now) fact.predicate fact.first fact.second ≡ nat_lt result len }
-    ensures there { (d : Fact) → result < len → slice_index_or table.now result d ≡ fact }
+// Where the fact stands among the records, if it does.
+fn find(records: &[Fact], fact: Fact) -> Option<usize>
+    ensures { result ≡ position (is_record fact) records.now }
 {
-    for i in 0..len {
-        let x = table[i];
-        if x.is(fact) {
-            return i;
-        }
-    }
-    len
+    records.iter().position(|record| *record == fact)
 }
 
 impl<'a> Register for RecordList<'a> {
+    ghost use Rattle.registers.specs.Lawfulness.{list_lawful};
+
     ghost meaning = { λ l. list_meaning l.table.now l.len };
 
+    ghost lawful = { λ l. list_lawful _ _ l.few l.apart l.bounded };
+
     fn holds(&self, fact: Fact) -> bool {
-        self.place(fact) < self.len
+        self.place(fact).is_some()
     }
 
     fn size(&self) -> usize {
@@ -89,25 +83,21 @@ impl<'a> Register for RecordList<'a> {
         if !fact.in_bounds() {
             return Err(Refusal::OutOfBounds);
         }
-        let len = self.len;
-        if self.place(fact) < len {
+        if self.place(fact).is_some() {
             return Ok(());
         }
-        if len >= self.room() {
+        if self.len >= self.room() {
             return Err(Refusal::Full);
         }
-        self.table[len] = fact;
-        self.len = len + 1;
+        self.table[self.len] = fact;
+        self.len += 1;
         Ok(())
     }
 
     fn take(&mut self, fact: Fact) {
-        let len = self.len;
-        let at = self.place(fact);
-        if at < len {
-            let last = self.table[len - 1];
-            self.table[at] = last;
-            self.len = len - 1;
+        if let Some(at) = self.place(fact) {
+            self.table[at] = self.table[self.len - 1];
+            self.len -= 1;
         }
     }
 }

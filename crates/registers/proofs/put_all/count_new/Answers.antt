@@ -17,7 +17,7 @@ loop-k-preserved g c =
     elim c.match-get.branch [
       | in-Some+then-not-holds+then-not-is_before w ↦ (
         ap (λ n. size_of m + n) w.new-is
-            ∙ new-more m fs c.loop-k.k c.loop-k.new w.in-Some.fact c.requires w.in-Some.ensures c.loop-k.invariant.0 (sym w.if-not-holds.ensures.answer) (sym w.if-not-is_before.ensures),
+            ∙ new-more m fs c.loop-k.k c.loop-k.new w.in-Some.fact c.requires w.in-Some.ensures c.loop-k.invariant.0 (sym w.if-not-holds.ensures) (sym w.if-not-is_before.ensures),
         omega (arith, w.new-is, c.loop-k.invariant.1),
       )
       | in-Some+else-not-holds w ↦ (
@@ -26,7 +26,7 @@ loop-k-preserved g c =
               | else-not-holds-via-then-not-holds+else-not-is_before v ↦
                   listed-before-more m fs c.loop-k.k c.loop-k.new w.in-Some.fact w.in-Some.ensures c.loop-k.invariant.0 (sym v.if-not-is_before.ensures)
               | else-not-holds-via-else-not-holds v ↦
-                  held_more m fs c.loop-k.k c.loop-k.new w.in-Some.fact w.in-Some.ensures c.loop-k.invariant.0 (sym v.if-not-holds.ensures.answer)
+                  held_more m fs c.loop-k.k c.loop-k.new w.in-Some.fact w.in-Some.ensures c.loop-k.invariant.0 (sym v.if-not-holds.ensures)
             ],
         omega (arith, w.new-is, c.loop-k.invariant.1),
       )

@@ -1,5 +1,5 @@
-use Rattle.registers.proofs.GridSteps.{grid_lawful, grid_limit}
+use Rattle.registers.proofs.GridSteps.{grid_limit}
 use Rattle.registers.proofs.grid.GridRegister.limit.Goals as goal
 
 pub returns : goal.returns
-returns c = record { answer = grid_limit _ _; lawful = grid_lawful _ _ c.args.self.now.few }
+returns c = grid_limit _ _

@@ -204,11 +204,10 @@ grid_wrote rows p a b at old w v f e len o h =
     ∙ grid_write rows p a b w v f (subst (λ n. n < length rows) e l) (λ k. h k ∙ ap (λ t. cond (eqb b k) v (bit_of t k)) e2)
 
 -- one row more counted
-pub rows_more : (rows : List ℕ) (i n o w : ℕ) → length rows ≡ 2048 → i < 2048 → w ≡ get_or rows i w →
-    n ≡ sum_below i (λ r. bits_of (get_or rows r 0)) → o ≡ bits_of w → n + o ≡ sum_below (i + 1) (λ r. bits_of (get_or rows r 0))
+pub rows_more : (rows : List ℕ) (i n o : ℕ) → n ≡ sum_below i (λ r. bits_of (get_or rows r 0)) → o ≡ bits_of (get_or rows i 0) →
+    n + o ≡ sum_below (i + 1) (λ r. bits_of (get_or rows r 0))
 unfolding sum_below
-rows_more rows i n o w len l e en eo =
-    let eo2 : o ≡ bits_of (get_or rows i 0) = eo ∙ ap bits_of (e ∙ get_or_default rows i w 0 (omega arith)) in
+rows_more rows i n o en eo =
     (let k : n + o ≡ sum_below i (λ r. bits_of (get_or rows r 0)) + bits_of (get_or rows i 0) = omega arith in k)
     ∙ sym (ap (λ t. sum_below t (λ r. bits_of (get_or rows r 0))) (add-one i))
 

@@ -52,13 +52,8 @@ pub fn make_calls<R: Register>(register: &mut R, lines: &mut [Line])
     ensures answers { lines.new ≡ answered (R.Register.meaning register.old) lines.old }
     ensures after { R.Register.meaning register.new ≡ after_lines (R.Register.meaning register.old) lines.old }
 {
-    for i in 0..lines.len() {
-        let call = lines[i].call;
-        let answer = make_call(register, call);
-        lines[i] = Line {
-            call,
-            answer: Some(answer),
-        };
+    for line in lines {
+        line.answer = Some(make_call(register, line.call));
     }
 }
 

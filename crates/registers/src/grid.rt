@@ -46,9 +46,9 @@ impl Grid {
     fn count(&self) -> usize
         ensures { result ≡ count_of (grid_facts self.now.rows.items) }
     {
-        let mut n: usize = 0;
-        for i in 0..ROWS {
-            n += ones_of(self.rows[i]);
+        let mut n = 0;
+        for row in &self.rows {
+            n += ones_of(*row);
         }
         n
     }

@@ -1,7 +1,8 @@
 -- How the tests of bounds grow with the lists that are read, and what they say of one item.
-use Rattle.std.proofs.Common.{◌≡◌, ℕ, zero, suc, ◌+◌, ◌<◌, ◌≤◌, true, ◌&&◌, leb, List, [], ◌∷◌, ◌++◌, length, get_or, take, set, Some, None, refl, ap, ◌∙◌, subst, arith}
+use Rattle.std.proofs.Common.{◌≡◌, ℕ, zero, suc, ◌+◌, ◌<◌, ◌≤◌, true, ◌&&◌, leb, List, [], ◌∷◌, ◌++◌, length, get_or, take, set, Option, Some, None, IfSome, is_some, ltb, Bor, sym, refl, ap, ◌∙◌, subst, arith}
 use Rattle.std.specs.List.{slice_get}
-use Rattle.std.proofs.lemmas.Bool.{and_parts, and_from, le-leb, leb-true}
+use Rattle.std.specs.Option.{option_copied}
+use Rattle.std.proofs.lemmas.Bool.{and_parts, and_from, le-leb, leb-true, ltb-true}
 use Rattle.std.proofs.lemmas.List.{length-take-le, get_or-take, take_more_set}
 use Rattle.std.proofs.lemmas.Option.{slice_get-get_or, slice_get_past}
 use Rattle.goals.specs.declared.operation.Operation.{Operation}
@@ -51,6 +52,12 @@ unfolding operations_inside
 inside-at ids [] k o h e = let z : ◌≡◌ {A = ℕ} 0 1 = cc in absurd (omega arith)
 inside-at ids (x ∷ os) zero o h e = let same : x ≡ o = cc in subst (Inside ids) same (and_parts (operation_inside ids x) (operations_inside ids os) h).0
 inside-at ids (x ∷ os) (suc k) o h e = inside-at ids os k o (and_parts (operation_inside ids x) (operations_inside ids os) h).1 e
+
+pub inside-got : (ids : ℕ) (os : List Operation) (k : ℕ) (r : Option (Bor Operation)) → operations_inside ids os ≡ true →
+    is_some r ≡ ltb k (length os) → IfSome r (λ x. x.now ≡ get_or os k x.now) → IfSome (option_copied r) (λ o. Inside ids o)
+inside-got ids os k None h i e = tt
+inside-got ids os k (Some x) h i e =
+    inside-at ids os k x.now h (slice_get-get_or os k x.now (ltb-true k (length os) (sym i)) ∙ ap Some (sym e))
 
 -- the first entries of a list, as many as are in use
 pub length_front : {X : Type 0} (xs : List X) (n : ℕ) → n ≤ length xs → length (take n xs) ≡ n

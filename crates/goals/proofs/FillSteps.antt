@@ -1,12 +1,11 @@
 -- The facts of a file by their index, and what putting them comes to in each of its cases.
-use Rattle.std.proofs.Common.{◌≡◌, ℕ, zero, suc, ◌+◌, ◌*◌, ◌<◌, ◌≤◌, Bool, true, false, cond, ◌&&◌, List, [], length, drop, is_ok, Some, None, Ok, Err, Result, sym, refl, ap, ◌∙◌, arith}
-use Rattle.std.specs.List.{slice_get}
+use Rattle.std.proofs.Common.{◌≡◌, ℕ, zero, suc, ◌+◌, ◌*◌, ◌<◌, ◌≤◌, true, false, cond, ◌&&◌, List, [], ◌∷◌, length, is_ok, Some, None, Ok, Err, Result, sym, refl, ap, ◌∙◌, arith}
+use Rattle.std.specs.List.{slice_get, list_all}
 use Rattle.std.proofs.lemmas.Bool.{cond-true, cond-false}
 use Rattle.registers.specs.declared.fact.Fact.{Fact}
 use Rattle.registers.specs.declared.refusal.Refusal.{Refusal}
 use Rattle.registers.specs.declared.refusal.Refusal.TheVariants.{OutOfBounds}
 use Rattle.registers.specs.Meaning.{Meaning, including_all, put_all_answer, after_put_all}
-use Rattle.registers.proofs.ListLaws.{drop-at_index}
 use Rattle.goals.specs.declared.frame.Frame.{Frame}
 use Rattle.goals.specs.Filling.{fact_at, facts_from, facts_of, declared, all_declared, facts_answer, after_facts}
 
@@ -28,17 +27,11 @@ fact_past file zero at k l = refl
 fact_past file (suc n) at zero l = absurd (omega arith)
 fact_past file (suc n) at (suc k) l = fact_past file n (at + 3) k (omega arith)
 
--- one fact more is tested
-
-pub declared-drop : (file : List ℕ) (f : Frame) (fs : List Fact) (k : ℕ) (x : Fact) (v : Bool) → Some x ≡ slice_get fs k → v ≡ declared file f x →
-    all_declared file f (drop k fs) ≡ (v && all_declared file f (drop (k + 1) fs))
+-- testing each fact is testing them all
+pub all_declared-all : (file : List ℕ) (f : Frame) (fs : List Fact) → list_all (declared file f) fs ≡ all_declared file f fs
 unfolding all_declared
-declared-drop file f fs k x v e h =
-    ap (all_declared file f) (drop-at_index fs k x e) ∙ ap (λ t. t && all_declared file f (drop (k + 1) fs)) (sym h)
-
-pub declared-none : (file : List ℕ) (f : Frame) → all_declared file f [] ≡ true
-unfolding all_declared
-declared-none file f = refl
+all_declared-all file f [] = refl
+all_declared-all file f (x ∷ fs) = ap (λ t. declared file f x && t) (all_declared-all file f fs)
 
 -- the cases of putting them
 

@@ -27,5 +27,6 @@ pub mod GoalClaims
 pub mod JobText
 pub mod JobReading
 pub mod Placing
+pub mod SoundJob
 pub mod JobView
 pub mod NodeTable

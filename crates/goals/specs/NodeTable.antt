@@ -1,6 +1,7 @@
 -- Tables of goal nodes: each node stands behind its parts, and the ends of each until are in order.
 -- A node names its parts by their numbers, which are smaller than its own.
 use Rattle.std.specs.Prelude.{◌≡◌, ℕ, ◌<◌, Bool, true, List, length, Some, None, Option, nat_le, slice_index_or}
+use Rattle.std.specs.Coded.{×_prop, Unit-prop, le_prop}
 use Rattle.goals.specs.declared.time.Span.{Span}
 use Rattle.goals.specs.declared.goal.Ends.{Ends}
 use Rattle.goals.specs.declared.goal.Node.{Node}
@@ -18,6 +19,19 @@ PartsBelow k (Next x) = x < k
 PartsBelow k (Until e x y) = (x < k) × (y < k)
 PartsBelow k (ForAll v a x) = x < k
 PartsBelow k (Exists v a x) = x < k
+
+-- a node has at most one proof of it
+pub PartsBelow-prop : (k : ℕ) (n : Node) → IsProp (PartsBelow k n)
+PartsBelow-prop k True = Unit-prop
+PartsBelow-prop k (Test a) = Unit-prop
+PartsBelow-prop k (Equal t u) = Unit-prop
+PartsBelow-prop k (Not x) = le_prop
+PartsBelow-prop k (And x y) = ×_prop le_prop le_prop
+PartsBelow-prop k (Or x y) = ×_prop le_prop le_prop
+PartsBelow-prop k (Next x) = le_prop
+PartsBelow-prop k (Until e x y) = ×_prop le_prop le_prop
+PartsBelow-prop k (ForAll v a x) = le_prop
+PartsBelow-prop k (Exists v a x) = le_prop
 
 -- each node of a table stands behind its parts
 abbrev pub Rising : List Node → Type 0

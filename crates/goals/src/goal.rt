@@ -80,11 +80,7 @@ impl Goal {
     pub fn node(&self, number: usize) -> Option<Node>
         ensures { MatchOption result (length self.now.nodes.items ≤ number) (λ n. (number < length self.now.nodes.items) × (n ≡ slice_index_or self.now.nodes.items number True)) }
     {
-        if number < self.nodes.len() {
-            Some(self.nodes[number])
-        } else {
-            None
-        }
+        self.nodes.get(number).copied()
     }
 }
 

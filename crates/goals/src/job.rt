@@ -1,5 +1,8 @@
-ghost use Rattle.std.specs.Prelude.{ℕ, List};
+ghost use Rattle.std.specs.Prelude.{ℕ, List, vec_items};
+ghost use Rattle.std.proofs.Props.{props};
 ghost use Rattle.goals.specs.GoalClaims.{GoalRead};
+ghost use Rattle.goals.specs.NodeTable.{PartsBelow-prop};
+ghost use Rattle.goals.specs.SoundJob.{SoundJob};
 ghost use Rattle.goals.specs.Vocabulary.{vocabulary_of};
 
 use crate::catalogue::{Catalogue, CatalogueRoom};
@@ -27,4 +30,5 @@ pub struct Job {
     pub(crate) catalogue: Catalogue,
     pub(crate) goal: Goal,
     ghost read: { ∥ ((text : List ℕ) × GoalRead (vocabulary_of catalogue.ids catalogue.predicates.items) text goal) ∥₁ },
+    pub ghost sound: { SoundJob catalogue.ids (vec_items goal.nodes) goal.root } by { Prim.hlevel (props, PartsBelow-prop) },
 }

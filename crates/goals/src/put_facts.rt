@@ -5,7 +5,7 @@ use crate::bytes::byte_at;
 use crate::facts::FileFacts;
 use crate::frame::{Frame, end_of_predicates};
 use registers::fact::Fact;
-use registers::fact_list::FactList;
+use registers::fact_list::{FactList, facts};
 use registers::put_all::put_all;
 use registers::refusal::Refusal;
 use registers::register::Register;
@@ -21,25 +21,18 @@ pub(crate) fn put_facts<R: Register>(
     ensures answer { result ≡ facts_answer (R.Register.meaning register.old) file.now frame }
     ensures after { R.Register.meaning register.new ≡ after_facts (R.Register.meaning register.old) file.now frame result }
 {
-    let facts = FileFacts::new(file, frame.facts_at, frame.facts);
-    if !all_declared(file, frame, &facts) {
+    let list = FileFacts::new(file, frame.facts_at, frame.facts);
+    if !all_declared(file, frame, &list) {
         return Err(Refusal::OutOfBounds);
     }
-    put_all(register, &facts)
+    put_all(register, &list)
 }
 
 // Does the file's catalogue allow every fact?
-fn all_declared<L: FactList>(file: &[u8], frame: Frame, facts: &L) -> bool
-    ensures { result ≡ all_declared file.now frame (L.FactList.listed facts.now) }
+fn all_declared<L: FactList>(file: &[u8], frame: Frame, list: &L) -> bool
+    ensures { result ≡ all_declared file.now frame (L.FactList.listed list.now) }
 {
-    for k in 0..facts.count() {
-        if let Some(fact) = facts.get(k) {
-            if !is_declared(file, frame, fact) {
-                return false;
-            }
-        }
-    }
-    true
+    facts(list).all(|fact| is_declared(file, frame, fact))
 }
 
 fn is_declared(file: &[u8], frame: Frame, fact: Fact) -> bool
@@ -47,8 +40,8 @@ fn is_declared(file: &[u8], frame: Frame, fact: Fact) -> bool
 {
     let places = byte_at(file, end_of_predicates(file, fact.predicate));
     fact.predicate < frame.predicates
-        && (id_fits(places >= 1, frame.ids, fact.first)
-            && id_fits(places >= 2, frame.ids, fact.second))
+        && id_fits(places >= 1, frame.ids, fact.first)
+        && id_fits(places >= 2, frame.ids, fact.second)
 }
 
 fn id_fits(used: bool, ids: u8, id: u16) -> bool

@@ -124,12 +124,6 @@ pub fn print_records(rt: &HostRuntime) -> io::Result<()> {
     Ok(())
 }
 
-fn count_records(records: &[Fact], fact: Fact) -> u32 {
-    let mut count: u32 = 0;
-    for record in records {
-        if record.is(fact) {
-            count = count.wrapping_add(1);
-        }
-    }
-    count
+fn count_records(records: &[Fact], fact: Fact) -> usize {
+    records.iter().filter(|record| **record == fact).count()
 }

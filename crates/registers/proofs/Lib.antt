@@ -1,6 +1,7 @@
 pub mod Counts
 pub mod Members
 pub mod Laws
+pub mod FactSteps
 pub mod ListLaws
 pub mod Taking
 pub mod CallLaws

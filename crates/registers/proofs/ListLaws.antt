@@ -1,13 +1,13 @@
 -- Laws of putting whole lists: membership, size and limit with every fact of a list in, one more fact at a time.
-use Rattle.std.proofs.Common.{◌≡◌, ℕ, zero, suc, ◌+◌, ◌<◌, ◌≤◌, Bool, true, false, cond, not, ◌&&◌, ◌||◌, ltb, leb, List, [], ◌∷◌, ◌++◌, length, take, drop, is_ok, Some, None, Ok, Err, Result, sym, refl, ap, ◌∙◌, ⊎_elim, arith}
-use Rattle.std.specs.List.{slice_get}
-use Rattle.std.proofs.lemmas.List.{take-append-drop, take_all, drop_all}
+use Rattle.std.proofs.Common.{◌≡◌, ℕ, zero, suc, ◌+◌, ◌<◌, ◌≤◌, Bool, true, false, cond, not, ◌&&◌, ◌||◌, ltb, leb, List, [], ◌∷◌, ◌++◌, length, take, drop, is_ok, Option, Some, None, MatchOption, Ok, Err, Result, sym, refl, ap, ◌∙◌, ⊎_elim, arith}
+use Rattle.std.specs.List.{slice_get, list_all, list_any}
+use Rattle.std.proofs.lemmas.List.{append-nil, take-append-drop, take_all, drop_all}
 use Rattle.std.proofs.lemmas.Bool.{cases_Bool, cond-true, cond-false, not_from_true, not_from_false, and_parts, or_from, or_left, or_right, lt-ltb, le-ltb, leb-true, leb-false}
 use Rattle.registers.specs.declared.fact.Fact.{Fact}
 use Rattle.registers.specs.declared.refusal.Refusal.{Refusal}
 use Rattle.registers.specs.declared.refusal.Refusal.TheVariants.{OutOfBounds, Full}
 use Rattle.registers.specs.Meaning.{Meaning, has, size_of, limit_of, allowed, including, after_put, including_all, all_allowed, put_all_answer, after_put_all}
-use Rattle.registers.specs.Records.{listed}
+use Rattle.registers.specs.Records.{listed, is_record}
 use Rattle.registers.proofs.Members.{listed_as, listed-push}
 use Rattle.registers.proofs.Laws.{is, has-including, including_held, limit-including, size-including, size-including_le, size-including_ge, put_held, put-room}
 
@@ -29,6 +29,21 @@ none_past [] k l e = omega arith
 none_past (y ∷ ys) zero l e = let z : ◌≡◌ {A = ℕ} 0 1 = cc in omega arith
 none_past (y ∷ ys) (suc k) l e = none_past ys k (omega arith) e
 
+-- the first of what is left stands at the index, and what is left behind it begins one further on
+pub index-of_first : {X : Type 0} (xs : List X) (k : ℕ) (x : X) (ys : List X) → drop k xs ≡ x ∷ ys → (Some x ≡ slice_get xs k) × (drop (k + 1) xs ≡ ys)
+index-of_first [] zero x ys e = let z : ◌≡◌ {A = ℕ} 0 1 = cc in absurd (omega arith)
+index-of_first [] (suc k) x ys e = let z : ◌≡◌ {A = ℕ} 0 1 = cc in absurd (omega arith)
+index-of_first (y ∷ xs) zero x ys e = let q : x ≡ y = cc in let r : xs ≡ ys = cc in (ap Some q, r)
+index-of_first (y ∷ xs) (suc k) x ys e =
+    let r = index-of_first xs k x ys e in
+    (r.0, ap (λ n. drop n (y ∷ xs)) (let q : suc k + 1 ≡ suc (k + 1) = omega arith in q) ∙ r.1)
+
+-- what reading by an index gives before the end is the first of what is left there
+pub first-at_index : {X : Type 0} (xs : List X) (k : ℕ) (r : Option X) → r ≡ slice_get xs k → k < length xs →
+    MatchOption r ((drop k xs ≡ []) × (drop (k + 1) xs ≡ [])) (λ x. drop k xs ≡ x ∷ drop (k + 1) xs)
+first-at_index xs k (Some x) e l = drop-at_index xs k x e
+first-at_index xs k None e l = absurd (none_past xs k l e)
+
 -- every fact in bounds
 
 pub allowed_at : (fs : List Fact) (k : ℕ) (f : Fact) → Some f ≡ slice_get fs k → all_allowed fs ≡ true → allowed f ≡ true
@@ -40,6 +55,11 @@ allowed_at (y ∷ ys) (suc k) f e h = allowed_at ys k f e (and_parts (allowed y)
 pub allowed_cons : (f : Fact) (fs : List Fact) → all_allowed (f ∷ fs) ≡ (allowed f && all_allowed fs)
 unfolding all_allowed
 allowed_cons f fs = refl
+
+pub all_allowed-all : (fs : List Fact) → list_all allowed fs ≡ all_allowed fs
+unfolding all_allowed
+all_allowed-all [] = refl
+all_allowed-all (f ∷ fs) = ap (λ t. allowed f && t) (all_allowed-all fs)
 
 pub allowed-none : all_allowed [] ≡ true
 unfolding all_allowed
@@ -111,14 +131,18 @@ put-fits m f a l =
     (λ (h : has m f ≡ false). sym (put-room m f a (omega (arith, size-including m f a h))).after)
     (cases_Bool (has m f))
 
--- one more put, where there is room for all
-pub put-more : (m n : Meaning) (fs : List Fact) (k : ℕ) (f : Fact) → all_allowed fs ≡ true → size_of (including_all m fs) ≤ limit_of m → Some f ≡ slice_get fs k →
-    n ≡ including_all m (take k fs) → after_put n f ≡ including_all m (take (k + 1) fs)
-put-more m n fs k f a l e q =
-    let r = including-more m fs k f e in
-    let s : size_of (including_all m (take (k + 1) fs)) ≡ size_of (including (including_all m (take k fs)) f) = ap size_of r in
-    ap (λ t. after_put t f) q
-    ∙ (put-fits (including_all m (take k fs)) f (allowed_at fs k f e a) (omega (arith, size-part_le m fs (k + 1), limit-all m (take k fs), s)) ∙ sym r)
+-- the next one of those that are left is put, where there is room for all
+pub put-next : (m n : Meaning) (fs rest : List Fact) (f : Fact) → size_of (including_all m fs) ≤ limit_of m →
+    including_all n (f ∷ rest) ≡ including_all m fs → all_allowed (f ∷ rest) ≡ true →
+    (including_all (after_put n f) rest ≡ including_all m fs) × (all_allowed rest ≡ true)
+unfolding including_all
+put-next m n fs rest f room e a =
+    let b = and_parts (allowed f) (all_allowed rest) (sym (allowed_cons f rest) ∙ a) in
+    let one : including_all n (f ∷ rest) ≡ including_all (including n f) rest = refl in
+    let put : after_put n f ≡ including n f
+    = put-fits n f b.0
+    (omega (arith, room, ap limit_of e, limit-all n (f ∷ rest), limit-all m fs, size-all_ge (including n f) rest, ap size_of one, ap size_of e)) in
+    (ap (λ t. including_all t rest) put ∙ (sym one ∙ e), b.1)
 
 -- a fact that is new to the register and to the list so far makes one more, any other none
 pub new-more : (m : Meaning) (fs : List Fact) (k n : ℕ) (f : Fact) → all_allowed fs ≡ true → Some f ≡ slice_get fs k →
@@ -198,6 +222,11 @@ pub listed-none : (f : Fact) → listed_as [] f ≡ false
 unfolding listed
 listed-none f = refl
 
+pub listed-any : (f : Fact) (fs : List Fact) → list_any (is_record f) fs ≡ listed_as fs f
+unfolding listed
+listed-any f [] = refl
+listed-any f (x ∷ fs) = ap (λ t. is_record f x || t) (listed-any f fs)
+
 pub listed-more-at : (fs : List Fact) (k : ℕ) (x f : Fact) → Some x ≡ slice_get fs k → listed_as (take k fs) f ≡ false → is x f ≡ false →
     listed_as (take (k + 1) fs) f ≡ false
 listed-more-at fs k x f e h s =
@@ -217,3 +246,7 @@ listed-found-at (y ∷ ys) (suc n) (suc k) x f l e s =
 pub allowed-drop : (fs : List Fact) (k : ℕ) (f : Fact) (v : Bool) → Some f ≡ slice_get fs k → v ≡ allowed f → all_allowed (drop k fs) ≡ (v && all_allowed (drop (k + 1) fs))
 allowed-drop fs k f v e h =
     ap all_allowed (drop-at_index fs k f e) ∙ (allowed_cons f (drop (k + 1) fs) ∙ ap (λ t. t && all_allowed (drop (k + 1) fs)) (sym h))
+
+-- where nothing is left behind an index, all are before it
+pub taken_all : {X : Type 0} (xs : List X) (k : ℕ) → drop k xs ≡ [] → take k xs ≡ xs
+taken_all xs k e = sym (append-nil (take k xs)) ∙ (ap (λ t. take k xs ++ t) (sym e) ∙ take-append-drop k xs)

@@ -1,5 +1,5 @@
 ghost use Rattle.std.specs.Prelude.{◌≡◌};
-ghost use Rattle.registers.specs.Facts.{in_bounds, same_fact};
+ghost use Rattle.registers.specs.Facts.{in_bounds};
 
 // A predicate of two ids; a place that the predicate does not use holds 0.
 #[derive(Clone, Copy, PartialEq, Eq, Debug)]
@@ -23,13 +23,6 @@ impl Fact {
     pub fn in_bounds(self) -> bool
         ensures { result ≡ in_bounds self.predicate self.first self.second }
     {
-        self.predicate < PREDICATES && (self.first < IDS && self.second < IDS)
-    }
-
-    pub fn is(self, other: Fact) -> bool
-        ensures { result ≡ same_fact self.predicate self.first self.second other.predicate other.first other.second }
-    {
-        self.predicate == other.predicate
-            && (self.first == other.first && self.second == other.second)
+        self.predicate < PREDICATES && self.first < IDS && self.second < IDS
     }
 }

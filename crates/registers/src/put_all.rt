@@ -3,7 +3,7 @@ ghost use Rattle.registers.specs.Meaning.{size_of, limit_of, all_allowed, includ
 ghost use Rattle.registers.specs.Records.{listed as listed_in};
 
 use crate::fact::{ALL_FACTS, Fact};
-use crate::fact_list::FactList;
+use crate::fact_list::{FactList, facts};
 use crate::refusal::Refusal;
 use crate::register::Register;
 
@@ -25,14 +25,7 @@ pub fn put_all<R: Register, L: FactList>(register: &mut R, list: &L) -> Result<(
 fn all_in_bounds<L: FactList>(list: &L) -> bool
     ensures { result ≡ all_allowed (L.FactList.listed list.now) }
 {
-    for k in 0..list.count() {
-        if let Some(fact) = list.get(k) {
-            if !fact.in_bounds() {
-                return false;
-            }
-        }
-    }
-    true
+    facts(list).all(|fact| fact.in_bounds())
 }
 
 // Would the limit allow all facts of the list, each counted once? A limit of all facts allows any.
@@ -54,11 +47,9 @@ fn count_new<R: Register, L: FactList>(register: &R, list: &L) -> usize
     ensures { size_of (R.Register.meaning register.now) + result ≡ size_of (including_all (R.Register.meaning register.now) (L.FactList.listed list.now)) }
 {
     let mut new = 0;
-    for k in 0..list.count() {
-        if let Some(fact) = list.get(k) {
-            if !register.holds(fact) && !is_before(list, k, fact) {
-                new += 1;
-            }
+    for (k, fact) in facts(list).enumerate() {
+        if !register.holds(fact) && !is_before(list, k, fact) {
+            new += 1;
         }
     }
     new
@@ -68,14 +59,7 @@ fn count_new<R: Register, L: FactList>(register: &R, list: &L) -> usize
 pub fn is_before<L: FactList>(list: &L, index: usize, fact: Fact) -> bool
     ensures { result ≡ listed_in (take index (L.FactList.listed list.now)) fact.predicate fact.first fact.second }
 {
-    for k in 0..index {
-        if let Some(other) = list.get(k) {
-            if other.is(fact) {
-                return true;
-            }
-        }
-    }
-    false
+    facts(list).take(index).any(|other| other == fact)
 }
 
 // Puts one fact after the other, where there is room for all.
@@ -84,9 +68,7 @@ fn put_each<R: Register, L: FactList>(register: &mut R, list: &L)
     requires room { size_of (including_all (R.Register.meaning register.old) (L.FactList.listed list.now)) ≤ limit_of (R.Register.meaning register.old) }
     ensures { R.Register.meaning register.new ≡ including_all (R.Register.meaning register.old) (L.FactList.listed list.now) }
 {
-    for k in 0..list.count() {
-        if let Some(fact) = list.get(k) {
-            let _ = register.put(fact);
-        }
+    for fact in facts(list) {
+        let _ = register.put(fact);
     }
 }

@@ -7,6 +7,7 @@ use Rattle.goals.specs.Reading.{reads}
 use Rattle.goals.specs.GoalClaims.{GoalRead}
 use Rattle.goals.specs.JobText.{words_of}
 use Rattle.goals.specs.JobReading.{FramedSays}
+use Rattle.goals.proofs.Jobs.{sound_from}
 use Rattle.goals.proofs.JobSteps.{inside, goal_slice, words_from-file, shape-of-file, operations-of-file}
 use Rattle.goals.proofs.read_job.job_of.Goals as goal
 
@@ -41,7 +42,7 @@ pub invariant_of-result : goal.invariant_of-result
 invariant_of-result c =
     let k = c.in_ok-catalogue.catalogue in
     let w = ap₂ vocabulary_of c.from.ensures c.as_slice.ensures.value in
-    record { read = ∣ (c.part-text.result.now, subst (λ V. GoalRead V c.part-text.result.now c.in_ok-goal.goal) w c.in_ok-goal.ensures.value) ∣₁ }
+    record { read = ∣ (c.part-text.result.now, subst (λ V. GoalRead V c.part-text.result.now c.in_ok-goal.goal) w c.in_ok-goal.ensures.value) ∣₁; sound = sound_from k c.in_ok-goal.goal }
 
 pub returns : goal.returns
 returns c =

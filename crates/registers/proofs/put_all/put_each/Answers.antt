@@ -1,29 +1,23 @@
-use Rattle.std.proofs.Common.{sym, ap, ◌∙◌, arith}
-use Rattle.std.proofs.lemmas.List.{take_all}
-use Rattle.registers.specs.Meaning.{including_all}
-use Rattle.registers.proofs.ListLaws.{including-none, put-more, take_past}
+use Rattle.std.proofs.Common.{drop, sym, ap, ◌∙◌}
+use Rattle.registers.specs.Meaning.{including_all, all_allowed}
+use Rattle.registers.proofs.FactSteps.{facts-left}
+use Rattle.registers.proofs.ListLaws.{including-none, put-next}
 use Rattle.registers.proofs.put_all.put_each.Goals as goal
-use Rattle.registers.proofs.put_all.put_each.Goals.{in-Some, in_default}
 
-pub loop-k-init : goal.loop-k-init
-loop-k-init g c = sym (including-none (g.R.Register.meaning c.args.register.now))
+pub loop-fact-init : goal.loop-fact-init
+loop-fact-init g c =
+    let all = facts-left g.L.FactList.listed _ _ _ c.into_iter-fact-iterator.ensures.into_iter_gives c.facts-fact-items.ensures.list c.facts-fact-items.ensures.start in
+    (ap (including_all (g.R.Register.meaning c.args.register.now)) all, ap all_allowed all ∙ c.requires.bounds)
 
-pub loop-k-preserved : goal.loop-k-preserved
-loop-k-preserved g c =
+pub loop-fact-preserved : goal.loop-fact-preserved
+loop-fact-preserved g c =
     let m = g.R.Register.meaning c.args.register.now in
-    let fs = g.L.FactList.listed c.args.list.now in
-    elim c.match-get.branch [
-      | in-Some w ↦
-          ap g.R.Register.meaning w.register-is
-          ∙ (w.put.ensures.after
-          ∙ put-more m (g.R.Register.meaning c.loop-k.register) fs c.loop-k.k w.in-Some.fact c.requires.bounds c.requires.room w.in-Some.ensures c.loop-k.invariant)
-      | in_default w ↦
-          ap g.R.Register.meaning w.register-is
-          ∙ (c.loop-k.invariant ∙ ap (including_all m) (sym (take_past fs c.loop-k.k w.in_default.ensures)))
-    ]
+    let n = g.R.Register.meaning c.loop-fact.register in
+    let left = c.in-Some.ensures.steps in
+    let put = put-next m n _ _ c.in-Some.fact c.requires.room (sym (ap (including_all n) left) ∙ c.loop-fact.invariant.0) (sym (ap all_allowed left) ∙ c.loop-fact.invariant.1) in
+    (ap (λ t. including_all t (drop c.next.new.self.next (g.L.FactList.listed c.next.new.self.list.now))) c.put.ensures.after ∙ put.0, put.1)
 
 pub returns : goal.returns
 returns g c =
-    c.loop-k.invariant
-    ∙ ap (including_all (g.R.Register.meaning c.args.register.now))
-    (take_all c.loop-k.k (g.L.FactList.listed c.args.list.now) (omega (arith, c.count-k-end.ensures)))
+    let n = g.R.Register.meaning c.loop-fact.register in
+    sym (including-none n) ∙ (sym (ap (including_all n) c.in-None.ensures.steps.0) ∙ c.loop-fact.invariant.0)

@@ -1,19 +1,15 @@
-use Rattle.std.proofs.Common.{vec_items, vec_len, sym, arith}
-use Rattle.std.proofs.lemmas.Option.{slice_get_read, slice_get_past}
-use Rattle.goals.proofs.Jobs.{sound}
-use Rattle.goals.proofs.BoundSteps.{inside-at}
-use Rattle.goals.specs.JobView.{ids_of, operations_in}
+use Rattle.std.proofs.Common.{length, get_or, IfSome, ltb, sym, ap, ◌∙◌, subst, ◌≡◌}
+use Rattle.goals.specs.EntryBounds.{Inside}
+use Rattle.goals.specs.JobView.{ids_of}
+use Rattle.goals.proofs.BoundSteps.{inside-got}
 use Rattle.goals.proofs.job.Job.operation.Goals as goal
 
-pub returns-then-number-len : goal.returns-then-number-len
-unfolding ids_of operations_in
-returns-then-number-len c =
-    let catalogue = c.args.self.now.catalogue in
-    let e = slice_get_read (vec_items catalogue.operations) (vec_len catalogue.operations) c.args.number c.index.result.now
-    catalogue.operations.ok.0 (omega (arith, c.len.ensures, c.if-number-len.true)) c.index.ensures in
-    record { value = sym e; inside = inside-at catalogue.ids (vec_items catalogue.operations) c.args.number c.index.result.now catalogue.bounds e; sound = sound c.args.self.now }
-
-pub returns-else-number-len : goal.returns-else-number-len
-unfolding operations_in
-returns-else-number-len c =
-    record { value = sym (slice_get_past c.args.self.now.catalogue.operations.items c.args.number (omega (arith, c.args.self.now.catalogue.operations.ok.0, c.len.ensures, c.if-number-len.false))); inside = tt; sound = sound c.args.self.now }
+pub returns-clause-inside : goal.returns-clause-inside
+unfolding ids_of
+returns-clause-inside c =
+    let job = c.args.self.now in
+    let e = c.deref.ensures.value in
+    subst (λ r. IfSome r (λ o. Inside job.catalogue.ids o)) (sym c.copied.ensures)
+    (inside-got job.catalogue.ids job.catalogue.operations.items c.args.number c.get.result job.catalogue.bounds
+    (c.get.ensures.lookup.0 ∙ ap (λ xs. ltb c.args.number (length xs)) e)
+    (subst (λ xs. IfSome c.get.result (λ x. x.now ≡ get_or xs c.args.number x.now)) e c.get.ensures.lookup.1))

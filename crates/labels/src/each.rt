@@ -7,7 +7,7 @@ ghost use Rattle.labels.specs.JobWalks.{node_of, Walks, WalksPart, WalksAll};
 
 use crate::binding::Binding;
 use crate::part::Part;
-use crate::read::node_ref_at;
+use crate::read::node_at;
 use crate::table::{Full, Table};
 use crate::walk::{Wait, node, until};
 use goals::goal::{Ends, Node};
@@ -28,7 +28,7 @@ fn pending<R: Register>(
     ensures limit { table.new.limit ≡ table.old.limit }
     ensures outcome { Walks job.now (R.Register.meaning register.now) span table.old table.new (with_ends ends (node_of job.now number)) binding result }
 {
-    match *node_ref_at(job, number) {
+    match *node_at(job, number) {
         Node::Until(_, hold, reach) => {
             let wait = Wait::new(number, ends, hold, reach);
             until(table, job, register, span, wait, binding)

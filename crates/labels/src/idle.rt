@@ -11,7 +11,7 @@ use crate::connective::Connective;
 use crate::known::is_known;
 use crate::label::Label;
 use crate::part::Part;
-use crate::read::{is_fact, node_ref_at};
+use crate::read::{is_fact, node_at};
 use crate::refusal::LabelRefusal;
 use crate::walk::{Range, Wait};
 use crate::workspace::Workspace;
@@ -24,7 +24,7 @@ use registers::register::Register;
 fn node<R: Register>(job: &Job, register: &R, number: usize, binding: Binding) -> bool
     ensures { result ≡ keeps job.now (R.Register.meaning register.now) (node_of job.now number) binding }
 {
-    match *node_ref_at(job, number) {
+    match *node_at(job, number) {
         Node::True => true,
         Node::Test(atom) => is_fact(register, binding, atom),
         Node::Equal(left, right) => binding.value(left) == binding.value(right),
@@ -100,7 +100,7 @@ fn pending<R: Register>(
 ) -> bool
     ensures { result ≡ keeps job.now (R.Register.meaning register.now) (with_ends ends (node_of job.now number)) binding }
 {
-    match *node_ref_at(job, number) {
+    match *node_at(job, number) {
         Node::Until(_, hold, reach) => {
             let wait = Wait::new(number, ends, hold, reach);
             until(job, register, wait, binding)

@@ -6,10 +6,10 @@ use goals::goal::{Ends, Node};
 use goals::time::Span;
 
 // A node's own ends, 0 unless it is an until.
-pub fn own_ends(node: Node) -> Ends
-    ensures { result ≡ node_ends node }
+pub fn own_ends(node: &Node) -> Ends
+    ensures { result ≡ node_ends node.now }
 {
-    match node {
+    match *node {
         Node::Until(ends, _, _) => ends,
         _ => Ends {
             lower: Span { hours: 0 },

@@ -1,5 +1,4 @@
 ghost use Rattle.std.specs.Prelude.{◌≡◌, ℕ};
-ghost use Rattle.goals.specs.JobView.{ids_of, nodes_of, root_of, SoundJob};
 ghost use Rattle.labels.specs.Known.{known_part};
 ghost use Rattle.labels.specs.LabelCalls.{label_of, known_to};
 
@@ -20,8 +19,7 @@ fn is_known_part(part: Part, nodes: usize, ids: u16) -> bool
 
 // Does the job know every pending part of the label?
 pub fn is_known(job: &Job, label: &Label) -> bool
-    ensures answer { result ≡ known_to job.now (label_of label.now) }
-    ensures sound { SoundJob (ids_of job.now) (nodes_of job.now) (root_of job.now) }
+    ensures { result ≡ known_to job.now (label_of label.now) }
 {
     let nodes = job.node_count();
     let ids = job.ids();

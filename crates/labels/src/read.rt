@@ -12,25 +12,11 @@ use registers::fact::Fact;
 use registers::register::Register;
 
 // The node of that number; behind the last one all is true.
-pub fn node_at(job: &Job, number: usize) -> Node
-    ensures value { result ≡ slice_index_or (nodes_of job.now) number True }
-    ensures below { PartsBelow number result }
-{
-    match job.node(number) {
-        Some(node) => node,
-        None => Node::True,
-    }
-}
-
-// The same node where it lies, which is read faster than a copy.
-pub fn node_ref_at(job: &Job, number: usize) -> &Node
+pub fn node_at(job: &Job, number: usize) -> &Node
     ensures value { result.now ≡ slice_index_or (nodes_of job.now) number True }
     ensures below { PartsBelow number result.now }
 {
-    match job.node_ref(number) {
-        Some(node) => node,
-        None => &Node::True,
-    }
+    job.node(number).unwrap_or(&Node::True)
 }
 
 // Is the atom a fact of the register, under the binding?

@@ -8,7 +8,7 @@ use crate::binding::Binding;
 use crate::connective::Connective;
 use crate::interval::{ends_after, is_passed, own_ends};
 use crate::part::Part;
-use crate::read::{is_fact, node_at, node_ref_at};
+use crate::read::{is_fact, node_at};
 use crate::table::{Full, Table};
 use goals::goal::{Atom, Ends, Node, Variable};
 use goals::job::Job;
@@ -132,7 +132,7 @@ pub fn node<R: Register>(
     ensures limit { table.new.limit ≡ table.old.limit }
     ensures outcome { Walks job.now (R.Register.meaning register.now) span table.old table.new (node_of job.now number) binding result }
 {
-    match *node_ref_at(job, number) {
+    match *node_at(job, number) {
         Node::True => Ok(table.settle(true)?),
         Node::Test(atom) => Ok(table.settle(is_fact(register, binding, atom))?),
         Node::Equal(left, right) => Ok(table.settle(binding.value(left) == binding.value(right))?),

@@ -16,7 +16,7 @@ returns-in-Until g c =
     let S : Facts = facts_of (g.R.Register.meaning c.args.register.now) in
     let nodes : List Node = nodes_of c.args.job.now in
     let k : ℕ = c.args.number in
-    let tree = tree-read nodes k (Until c.in-Until.field-0 c.in-Until.hold c.in-Until.reach) c.node_ref_at.ensures.value c.node_ref_at.ensures.below c.in-Until.is in
+    let tree = tree-read nodes k (Until c.in-Until.field-0 c.in-Until.hold c.in-Until.reach) c.node_at.ensures.value c.node_at.ensures.below c.in-Until.is in
     record {
       limit = c.until.ensures.limit;
       outcome = at-goal N S c.args.span.hours c.args.table.now.limit (vec_items c.args.table.now.items) (vec_items c.until.new.table.items)
@@ -30,8 +30,8 @@ returns-in_default g c =
     let S : Facts = facts_of (g.R.Register.meaning c.args.register.now) in
     let nodes : List Node = nodes_of c.args.job.now in
     let k : ℕ = c.args.number in
-    let nd : Node = c.node_ref_at.result.now in
-    let tree = tree_of nodes k nd (sym c.node_ref_at.ensures.value) c.node_ref_at.ensures.below in
+    let nd : Node = c.node_at.result.now in
+    let tree = tree_of nodes k nd (sym c.node_at.ensures.value) c.node_at.ensures.below in
     record {
       limit = c.node.ensures.limit;
       outcome = at-goal N S c.args.span.hours c.args.table.now.limit (vec_items c.args.table.now.items) (vec_items c.node.new.table.items)

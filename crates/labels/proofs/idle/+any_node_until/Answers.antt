@@ -20,7 +20,7 @@ node-returns-in-True g t c =
     let nodes : List Node = nodes_of c.args.job.now in
     let B : Binding = c.args.binding in
     let k : ℕ = c.args.number in
-    let tree = tree-read nodes k (True) c.node_ref_at.ensures.value c.node_ref_at.ensures.below c.in-True.is in
+    let tree = tree-read nodes k (True) c.node_at.ensures.value c.node_at.ensures.below c.in-True.is in
     idle_top N S k B
     ∙ ap (λ (φ : Goal). idles N S φ B) (sym tree)
 
@@ -31,7 +31,7 @@ node-returns-in-Test g t c =
     let nodes : List Node = nodes_of c.args.job.now in
     let B : Binding = c.args.binding in
     let k : ℕ = c.args.number in
-    let tree = tree-read nodes k (Test c.in-Test.atom) c.node_ref_at.ensures.value c.node_ref_at.ensures.below c.in-Test.is in
+    let tree = tree-read nodes k (Test c.in-Test.atom) c.node_at.ensures.value c.node_at.ensures.below c.in-Test.is in
     idle_test N S k B c.in-Test.atom c.is_fact.result c.is_fact.ensures
     ∙ ap (λ (φ : Goal). idles N S φ B) (sym tree)
 
@@ -42,7 +42,7 @@ node-returns-in-Equal g t c =
     let nodes : List Node = nodes_of c.args.job.now in
     let B : Binding = c.args.binding in
     let k : ℕ = c.args.number in
-    let tree = tree-read nodes k (Equal c.in-Equal.left c.in-Equal.right) c.node_ref_at.ensures.value c.node_ref_at.ensures.below c.in-Equal.is in
+    let tree = tree-read nodes k (Equal c.in-Equal.left c.in-Equal.right) c.node_at.ensures.value c.node_at.ensures.below c.in-Equal.is in
     idle_equal N S k B c.in-Equal.left c.in-Equal.right (eqb c.value.result c.value-in-Equal.result) (ap₂ eqb c.value.ensures c.value-in-Equal.ensures)
     ∙ ap (λ (φ : Goal). idles N S φ B) (sym tree)
 
@@ -53,7 +53,7 @@ node-returns-in-Not g t c =
     let nodes : List Node = nodes_of c.args.job.now in
     let B : Binding = c.args.binding in
     let k : ℕ = c.args.number in
-    let tree = tree-read nodes k (Not c.in-Not.x) c.node_ref_at.ensures.value c.node_ref_at.ensures.below c.in-Not.is in
+    let tree = tree-read nodes k (Not c.in-Not.x) c.node_at.ensures.value c.node_at.ensures.below c.in-Not.is in
     idle_not N S k B (goal_of_node nodes c.in-Not.x) c.node.result c.node.ensures
     ∙ ap (λ (φ : Goal). idles N S φ B) (sym tree)
 
@@ -64,7 +64,7 @@ node-returns-in-Next g t c =
     let nodes : List Node = nodes_of c.args.job.now in
     let B : Binding = c.args.binding in
     let k : ℕ = c.args.number in
-    let tree = tree-read nodes k (Next c.in-Next.x) c.node_ref_at.ensures.value c.node_ref_at.ensures.below c.in-Next.is in
+    let tree = tree-read nodes k (Next c.in-Next.x) c.node_at.ensures.value c.node_at.ensures.below c.in-Next.is in
     idle_next N S k B (goal_of_node nodes c.in-Next.x) c.node-in-Next.result c.node-in-Next.ensures
     ∙ ap (λ (φ : Goal). idles N S φ B) (sym tree)
 
@@ -75,7 +75,7 @@ node-returns-then-not-node g t c =
     let nodes : List Node = nodes_of c.args.job.now in
     let B : Binding = c.args.binding in
     let k : ℕ = c.args.number in
-    let tree = tree-read nodes k (And c.in-And.left c.in-And.right) c.node_ref_at.ensures.value c.node_ref_at.ensures.below c.in-And.is in
+    let tree = tree-read nodes k (And c.in-And.left c.in-And.right) c.node_at.ensures.value c.node_at.ensures.below c.in-And.is in
     idle_and_no N S k B (goal_of_node nodes c.in-And.left) (goal_of_node nodes c.in-And.right) c.node-in-And.result c.node-in-And.ensures c.if-not-node.true
     ∙ ap (λ (φ : Goal). idles N S φ B) (sym tree)
 
@@ -86,7 +86,7 @@ node-returns-else-not-node g t c =
     let nodes : List Node = nodes_of c.args.job.now in
     let B : Binding = c.args.binding in
     let k : ℕ = c.args.number in
-    let tree = tree-read nodes k (And c.in-And.left c.in-And.right) c.node_ref_at.ensures.value c.node_ref_at.ensures.below c.in-And.is in
+    let tree = tree-read nodes k (And c.in-And.left c.in-And.right) c.node_at.ensures.value c.node_at.ensures.below c.in-And.is in
     idle_and_yes N S k B (goal_of_node nodes c.in-And.left) (goal_of_node nodes c.in-And.right) c.node-in-And.result c.node-in-And.ensures c.if-not-node.false c.node-in-And-2.result c.node-in-And-2.ensures
     ∙ ap (λ (φ : Goal). idles N S φ B) (sym tree)
 
@@ -97,7 +97,7 @@ node-returns-then-node g t c =
     let nodes : List Node = nodes_of c.args.job.now in
     let B : Binding = c.args.binding in
     let k : ℕ = c.args.number in
-    let tree = tree-read nodes k (Or c.in-Or.left c.in-Or.right) c.node_ref_at.ensures.value c.node_ref_at.ensures.below c.in-Or.is in
+    let tree = tree-read nodes k (Or c.in-Or.left c.in-Or.right) c.node_at.ensures.value c.node_at.ensures.below c.in-Or.is in
     idle_or_yes N S k B (goal_of_node nodes c.in-Or.left) (goal_of_node nodes c.in-Or.right) c.node-in-Or.result c.node-in-Or.ensures c.if-node.true
     ∙ ap (λ (φ : Goal). idles N S φ B) (sym tree)
 
@@ -108,7 +108,7 @@ node-returns-else-node g t c =
     let nodes : List Node = nodes_of c.args.job.now in
     let B : Binding = c.args.binding in
     let k : ℕ = c.args.number in
-    let tree = tree-read nodes k (Or c.in-Or.left c.in-Or.right) c.node_ref_at.ensures.value c.node_ref_at.ensures.below c.in-Or.is in
+    let tree = tree-read nodes k (Or c.in-Or.left c.in-Or.right) c.node_at.ensures.value c.node_at.ensures.below c.in-Or.is in
     idle_or_no N S k B (goal_of_node nodes c.in-Or.left) (goal_of_node nodes c.in-Or.right) c.node-in-Or.result c.node-in-Or.ensures c.if-node.false c.node-in-Or-2.result c.node-in-Or-2.ensures
     ∙ ap (λ (φ : Goal). idles N S φ B) (sym tree)
 
@@ -119,7 +119,7 @@ node-returns-in-Until g t c =
     let nodes : List Node = nodes_of c.args.job.now in
     let B : Binding = c.args.binding in
     let k : ℕ = c.args.number in
-    let tree = tree-read nodes k (Until c.in-Until.ends c.in-Until.hold c.in-Until.reach) c.node_ref_at.ensures.value c.node_ref_at.ensures.below c.in-Until.is in
+    let tree = tree-read nodes k (Until c.in-Until.ends c.in-Until.hold c.in-Until.reach) c.node_at.ensures.value c.node_at.ensures.below c.in-Until.is in
     keeps_wait c.args.job.now (g.R.Register.meaning c.args.register.now) c.args.binding c.new-wait.ensures c.until.ensures
     ∙ ap (λ (φ : Goal). idles N S φ B) (sym tree)
 
@@ -130,7 +130,7 @@ node-returns-in-ForAll g t c =
     let nodes : List Node = nodes_of c.args.job.now in
     let B : Binding = c.args.binding in
     let k : ℕ = c.args.number in
-    let tree = tree-read nodes k (ForAll c.in-ForAll.variable c.in-ForAll.bound c.in-ForAll.body) c.node_ref_at.ensures.value c.node_ref_at.ensures.below c.in-ForAll.is in
+    let tree = tree-read nodes k (ForAll c.in-ForAll.variable c.in-ForAll.bound c.in-ForAll.body) c.node_at.ensures.value c.node_at.ensures.below c.in-ForAll.is in
     idle_all N S k B c.in-ForAll.variable c.in-ForAll.bound (goal_of_node nodes c.in-ForAll.body) c.any.result (keeps-range c.args.job.now (g.R.Register.meaning c.args.register.now) c.args.binding false c.new-range.ensures c.any.ensures)
     ∙ ap (λ (φ : Goal). idles N S φ B) (sym tree)
 
@@ -141,7 +141,7 @@ node-returns-in-Exists g t c =
     let nodes : List Node = nodes_of c.args.job.now in
     let B : Binding = c.args.binding in
     let k : ℕ = c.args.number in
-    let tree = tree-read nodes k (Exists c.in-Exists.variable c.in-Exists.bound c.in-Exists.body) c.node_ref_at.ensures.value c.node_ref_at.ensures.below c.in-Exists.is in
+    let tree = tree-read nodes k (Exists c.in-Exists.variable c.in-Exists.bound c.in-Exists.body) c.node_at.ensures.value c.node_at.ensures.below c.in-Exists.is in
     idle_exists N S k B c.in-Exists.variable c.in-Exists.bound (goal_of_node nodes c.in-Exists.body) c.any-in-Exists.result (keeps-range c.args.job.now (g.R.Register.meaning c.args.register.now) c.args.binding true c.new-range-in-Exists.ensures c.any-in-Exists.ensures)
     ∙ ap (λ (φ : Goal). idles N S φ B) (sym tree)
 
@@ -182,7 +182,7 @@ any-returns-then-node-wanted g t c =
     let item : ℕ → Bool = λ x. agrees c.args.wanted (idles N S φ (bind v x B)) in
     let id : ℕ = c.loop-id.id in
     let is : c.with-bound.result ≡ bind v id B = c.with-bound.ensures in
-    let lt : id < N = omega (arith, c.ids-id-end.ensures.value, c.loop-id-test.true) in
+    let lt : id < N = omega (arith, c.ids-id-end.ensures, c.loop-id-test.true) in
     some-here range item id N lt
     (ap (λ (w : Binding). fact S w a) (sym is) ∙ (sym c.is_fact.ensures ∙ c.if-is_fact.true))
     (ap (λ (w : Binding). agrees c.args.wanted (idles N S φ w)) (sym is)

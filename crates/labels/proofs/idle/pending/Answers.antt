@@ -17,7 +17,7 @@ returns-in-Until g c =
     let S : Facts = facts_of (g.R.Register.meaning c.args.register.now) in
     let nodes : List Node = nodes_of c.args.job.now in
     let tree = tree-read nodes c.args.number (Until c.in-Until.field-0 c.in-Until.hold c.in-Until.reach)
-    c.node_ref_at.ensures.value c.node_ref_at.ensures.below c.in-Until.is in
+    c.node_at.ensures.value c.node_at.ensures.below c.in-Until.is in
     keeps_wait c.args.job.now (g.R.Register.meaning c.args.register.now) c.args.binding c.new-wait.ensures c.until.ensures
     ∙ ap (λ (φ : Goal). idles N S (with_ends c.args.ends φ) c.args.binding) (sym tree)
 
@@ -26,8 +26,8 @@ returns-in_default g c =
     let N : ℕ = ids_of c.args.job.now in
     let S : Facts = facts_of (g.R.Register.meaning c.args.register.now) in
     let nodes : List Node = nodes_of c.args.job.now in
-    let nd : Node = c.node_ref_at.result.now in
-    let tree = tree_of nodes c.args.number nd (sym c.node_ref_at.ensures.value) c.node_ref_at.ensures.below in
+    let nd : Node = c.node_at.result.now in
+    let tree = tree_of nodes c.args.number nd (sym c.node_at.ensures.value) c.node_at.ensures.below in
     c.node.ensures
     ∙ ap (λ (φ : Goal). idles N S φ c.args.binding)
     (tree ∙ (with_other (goal_of_node nodes) c.args.number nd c.args.ends c.in_default.not-Until ∙ ap (with_ends c.args.ends) (sym tree)))

@@ -1,15 +1,9 @@
-use Rattle.goals.specs.JobView.{nodes_of}
-use Rattle.labels.proofs.Nodes.{node-there, node-missing}
+use Rattle.std.proofs.Common.{refl}
+use Rattle.goals.specs.JobView.{nodes_of, sound}
+use Rattle.labels.proofs.Nodes.{node-or_true}
 use Rattle.labels.proofs.read.node_at.Goals as goal
 
-pub returns-in-Some : goal.returns-in-Some
-returns-in-Some c =
-    let h = c.in-Some.ensures in
-    let n = node-there (nodes_of c.args.job.now) c.args.number c.in-Some.node h.sound.rising h.value in
+pub returns : goal.returns
+returns c =
+    let n = node-or_true (nodes_of c.args.job.now) c.args.number c.node.result c.unwrap_or.result _ (sound c.args.job.now).rising c.node.ensures c.unwrap_or.ensures refl in
     record { value = n.0; below = n.1 }
-
-pub returns-in-None : goal.returns-in-None
-returns-in-None c = record {
-  value = node-missing (nodes_of c.args.job.now) c.args.number c.in-None.ensures.value;
-  below = tt;
-}

@@ -1,5 +1,6 @@
 use Rattle.std.proofs.Common.{◌≡◌, ◌<◌, ◌≤◌, Bool, false, List, length, get_or, Ok, vec_items, vec_len, sym, ap, ◌∙◌, arith}
 use Rattle.std.proofs.lemmas.List.{get_or_read}
+use Rattle.goals.specs.JobView.{sound}
 use Rattle.labels.specs.declared.part.Part.{Part}
 use Rattle.labels.specs.LabelCalls.{label_of}
 use Rattle.labels.proofs.Meanings.{judges}
@@ -9,7 +10,7 @@ use Rattle.labels.proofs.label.Label.idles.Goals as goal
 pub returns-then-not-is_known : goal.returns-then-not-is_known
 returns-then-not-is_known g c = record {
   answer = idling_other c.args.job.now (g.R.Register.meaning c.args.register.now) (label_of c.args.self.now)
-      (sym c.is_known.ensures.answer ∙ c.if-not-is_known.true);
+      (sym c.is_known.ensures ∙ c.if-not-is_known.true);
   truth = tt;
 }
 
@@ -31,6 +32,6 @@ returns g c =
     let here : c.index.result.now ≡ get_or gave l.root false = get_or_read gave l.root c.index.result.now (omega arith) c.index.ensures false in
     let is = here ∙ c.every_part.ensures.gave l.root inside in
     record {
-      answer = ap Ok is ∙ idling-known job m (label_of l) (sym c.is_known.ensures.answer ∙ c.if-not-is_known.false);
-      truth = judges job c.is_known.ensures.sound m (label_of l) l.ordered c.index.result.now is;
+      answer = ap Ok is ∙ idling-known job m (label_of l) (sym c.is_known.ensures ∙ c.if-not-is_known.false);
+      truth = judges job (sound c.args.job.now) m (label_of l) l.ordered c.index.result.now is;
     }

@@ -2,7 +2,7 @@ use Rattle.std.proofs.Common.{◌≡◌, ℕ, List, [], ◌∷◌, get_or, vec_i
 use Rattle.goals.specs.declared.goal.Ends.{Ends}
 use Rattle.goals.specs.declared.goal.Node.{Node}
 use Rattle.goals.specs.declared.goal.Node.TheVariants.{True}
-use Rattle.goals.specs.JobView.{nodes_of, root_of}
+use Rattle.goals.specs.JobView.{nodes_of, root_of, sound}
 use Rattle.labels.specs.declared.part.Part.{Part}
 use Rattle.labels.specs.Facts.{unbound}
 use Rattle.labels.specs.Goals.{node_ends, goal_of_node}
@@ -39,13 +39,13 @@ invariant_of-result c =
     let e = none-is-empty (vec_items c.args.room.table.items) c.args.room.empty in
     let m : Made [] new q (q ∷ []) c.in-Ok.root = subst (λ (t : List Part). Made t new q (q ∷ []) c.in-Ok.root) e c.in-Ok.ensures.outcome in
     let is : label_at new c.in-Ok.root ≡ opening_of job = m.is
-    ∙ opens (nodes_of job) (root_of job) c.root-node.result c.own_ends-ends.result c.node_at.result
-    c.root-node.ensures.value c.own_ends-ends.ensures c.node_at.ensures.value in
+    ∙ opens (nodes_of job) (root_of job) c.root-node.result c.own_ends-ends.result c.node_at.result.now
+    c.root-node.ensures c.own_ends-ends.ensures c.node_at.ensures.value in
     record {
       roomy = c.add.ensures.limit ∙ c.args.room.roomy;
       inside = m.within;
       only = only_grown m;
-      ordered = ap ordered_label is ∙ opening-ordered job c.root-node.ensures.sound;
+      ordered = ap ordered_label is ∙ opening-ordered job (sound c.args.job.now);
     }
 
 pub returns : goal.returns
@@ -53,5 +53,5 @@ unfolding label_of opening_of
 returns c =
     let job = c.args.job.now in
     c.in-Ok.ensures.outcome.is
-    ∙ opens (nodes_of job) (root_of job) c.root-node.result c.own_ends-ends.result c.node_at.result
-    c.root-node.ensures.value c.own_ends-ends.ensures c.node_at.ensures.value
+    ∙ opens (nodes_of job) (root_of job) c.root-node.result c.own_ends-ends.result c.node_at.result.now
+    c.root-node.ensures c.own_ends-ends.ensures c.node_at.ensures.value

@@ -1,5 +1,6 @@
 use Rattle.std.proofs.Common.{◌≡◌, ◌<◌, true, length, Err, vec_items, sym, ap, ◌∙◌, subst}
 use Rattle.std.proofs.lemmas.Result.{err_from_is_err_and, IfOk-from_err}
+use Rattle.goals.specs.JobView.{sound}
 use Rattle.labels.specs.declared.refusal.LabelRefusal.{LabelRefusal}
 use Rattle.labels.specs.declared.refusal.LabelRefusal.TheVariants.{OtherJob}
 use Rattle.labels.specs.declared.table.Table.{Table}
@@ -15,7 +16,7 @@ pub returns-then-not-is_known : goal.returns-then-not-is_known
 returns-then-not-is_known g c =
     let m = g.R.Register.meaning c.args.register.now in
     let l = label_of c.args.self.now in
-    let e = other_job c.args.job.now m c.args.span l (sym c.is_known.ensures.answer ∙ c.if-not-is_known.true) in
+    let e = other_job c.args.job.now m c.args.span l (sym c.is_known.ensures ∙ c.if-not-is_known.true) in
     record { answer = e; after = left_alone c.args.job.now m c.args.span l OtherJob e; truth = tt }
 
 pub returns-in_err-root : goal.returns-in_err-root
@@ -23,7 +24,7 @@ returns-in_err-root g c =
     let m = g.R.Register.meaning c.args.register.now in
     let l = label_of c.args.self.now in
     let pr = err_from_is_err_and c.from_residual.result c.from_residual.ensures.1 in
-    let known = sym c.is_known.ensures.answer ∙ c.if-not-is_known.false in
+    let known = sym c.is_known.ensures ∙ c.if-not-is_known.false in
     let refusal : LabelRefusal = c.in_err-root.field-0.0 in
     let e = work-refused c.args.job.now m c.args.span l known (vec_items c.work_out.new.workspace.fresh.items) refusal
     c.in_err-root.ensures in
@@ -36,7 +37,7 @@ returns g c =
     let m = g.R.Register.meaning c.args.register.now in
     let D = c.args.span in
     let l = label_of c.args.self.now in
-    let known = sym c.is_known.ensures.answer ∙ c.if-not-is_known.false in
+    let known = sym c.is_known.ensures ∙ c.if-not-is_known.false in
     let root = c.in_ok-root.root in
     let new = vec_items c.work_out.new.workspace.fresh.items in
     let e = work_accepted job m D l known new root c.in_ok-root.ensures in
@@ -51,7 +52,7 @@ invariant_of-self g c =
     let m = g.R.Register.meaning c.args.register.now in
     let D = c.args.span in
     let l = label_of c.args.self.now in
-    let known = sym c.is_known.ensures.answer ∙ c.if-not-is_known.false in
+    let known = sym c.is_known.ensures ∙ c.if-not-is_known.false in
     let root = c.in_ok-root.root in
     let fresh = c.work_out.new.workspace.fresh in
     let w = c.in_ok-root.ensures in
@@ -60,5 +61,5 @@ invariant_of-self g c =
     (tb.limit ≡ 512) × (root < length (vec_items tb.items)) × OnlyParts (vec_items tb.items) root
     × (ordered_label (label_at (vec_items tb.items) root) ≡ true) in
     let fine = subst Fine (sym c.swap.ensures.x_after)
-    (c.work_out.new.workspace.roomy, w.within, w.only, ap ordered_label is ∙ progress-ordered job c.is_known.ensures.sound m D l c.args.self.now.ordered) in
+    (c.work_out.new.workspace.roomy, w.within, w.only, ap ordered_label is ∙ progress-ordered job (sound c.args.job.now) m D l c.args.self.now.ordered) in
     record { roomy = fine.0; inside = fine.1; only = fine.2; ordered = fine.3 }

@@ -33,9 +33,8 @@ fn report_steps<R: Register>(
     ensures tells { Tells job.now (R.Register.meaning register.old) (steps_in file.now)
         (ending_from job.now (opened job.now (R.Register.meaning register.old)) (steps_in file.now)) }
 {
-    // For the proof: a theorem, and what each method of a job tells of every job.
+    // For the proof: a theorem.
     labels_stay_known();
-    let _ids = job.ids();
     let RunRoom {
         label,
         mut workspace,

@@ -19,6 +19,10 @@ pub excluding-none : (m : Meaning) → excluding_all m [] ≡ m
 unfolding excluding_all
 excluding-none m = refl
 
+pub excluding-first : (m : Meaning) (f : Fact) (fs : List Fact) → excluding_all m (f ∷ fs) ≡ excluding_all (excluding m f) fs
+unfolding excluding_all
+excluding-first m f fs = refl
+
 excluding-push : (m : Meaning) (xs : List Fact) (x : Fact) → excluding_all m (xs ++ x ∷ []) ≡ excluding (excluding_all m xs) x
 unfolding excluding_all
 excluding-push m [] x = refl

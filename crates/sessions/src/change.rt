@@ -6,7 +6,7 @@ use crate::ground::Ground;
 use crate::step::Arguments;
 use goals::operation::Operation;
 use registers::fact::{ALL_FACTS, Fact};
-use registers::fact_list::FactList;
+use registers::fact_list::{FactList, facts};
 use registers::put_all::{is_before, put_all};
 use registers::register::Register;
 
@@ -15,11 +15,9 @@ fn count_held<R: Register, L: FactList>(register: &R, takes: &L) -> usize
     ensures { size_of (excluding_all (R.Register.meaning register.now) (L.FactList.listed takes.now)) + result ≡ size_of (R.Register.meaning register.now) }
 {
     let mut held = 0;
-    for k in 0..takes.count() {
-        if let Some(fact) = takes.get(k) {
-            if register.holds(fact) && !is_before(takes, k, fact) {
-                held += 1;
-            }
+    for (k, fact) in facts(takes).enumerate() {
+        if register.holds(fact) && !is_before(takes, k, fact) {
+            held += 1;
         }
     }
     held
@@ -29,8 +27,7 @@ fn count_held<R: Register, L: FactList>(register: &R, takes: &L) -> usize
 fn stays<R: Register, L: FactList>(register: &R, takes: &L, fact: Fact) -> bool
     ensures { result ≡ has (excluding_all (R.Register.meaning register.now) (L.FactList.listed takes.now)) fact }
 {
-    let taken = is_before(takes, takes.count(), fact);
-    register.holds(fact) && !taken
+    register.holds(fact) && !is_before(takes, takes.count(), fact)
 }
 
 // How many facts of `puts` would be new once those of `takes` are out, each counted once.
@@ -40,11 +37,9 @@ fn count_new<R: Register, S: FactList, L: FactList>(register: &R, takes: &S, put
         ≡ size_of (including_all (excluding_all (R.Register.meaning register.now) (S.FactList.listed takes.now)) (L.FactList.listed puts.now)) }
 {
     let mut new = 0;
-    for k in 0..puts.count() {
-        if let Some(fact) = puts.get(k) {
-            if !stays(register, takes, fact) && !is_before(puts, k, fact) {
-                new += 1;
-            }
+    for (k, fact) in facts(puts).enumerate() {
+        if !stays(register, takes, fact) && !is_before(puts, k, fact) {
+            new += 1;
         }
     }
     new
@@ -76,10 +71,8 @@ pub fn has_room<R: Register>(register: &R, operation: &Operation, arguments: Arg
 fn take_each<R: Register, L: FactList>(register: &mut R, takes: &L)
     ensures { R.Register.meaning register.new ≡ excluding_all (R.Register.meaning register.old) (L.FactList.listed takes.now) }
 {
-    for k in 0..takes.count() {
-        if let Some(fact) = takes.get(k) {
-            register.take(fact);
-        }
+    for fact in facts(takes) {
+        register.take(fact);
     }
 }
 

@@ -37,13 +37,11 @@ impl FactList for Ground {
     ghost listed = { λ g. ground_all g.arguments g.entries };
 
     fn count(&self) -> usize {
-        self.entries.count()
+        self.entries.as_slice().len()
     }
 
     fn get(&self, index: usize) -> Option<Fact> {
-        match self.entries.get(index) {
-            Some(entry) => Some(fact_of(entry, self.arguments)),
-            None => None,
-        }
+        let entry = self.entries.as_slice().get(index)?;
+        Some(fact_of(*entry, self.arguments))
     }
 }

@@ -18,8 +18,8 @@ pub fn arguments_fit(ids: u16, parameters: u8, arguments: Arguments) -> bool
     ensures { result ≡ arguments_fit ids parameters arguments }
 {
     argument_fits(ids, parameters > 0, arguments.first)
-        && (argument_fits(ids, parameters > 1, arguments.second)
-            && argument_fits(ids, parameters > 2, arguments.third))
+        && argument_fits(ids, parameters > 1, arguments.second)
+        && argument_fits(ids, parameters > 2, arguments.third)
 }
 
 fn need_holds<R: Register>(register: &R, arguments: Arguments, need: Entry) -> bool
@@ -37,12 +37,8 @@ pub fn first_failing<R: Register>(
 ) -> Option<usize>
     ensures { result ≡ first_failing (R.Register.meaning register.now) arguments needs.now }
 {
-    for k in 0..needs.count() {
-        if let Some(need) = needs.get(k) {
-            if !need_holds(register, arguments, need) {
-                return Some(k);
-            }
-        }
-    }
-    None
+    needs
+        .as_slice()
+        .iter()
+        .position(|need| !need_holds(register, arguments, *need))
 }

@@ -33,9 +33,8 @@ pub fn run_schedule<P: Pieces>(
         (record { state = closing_state result; facts = last_facts (P.Pieces.first pieces.new).facts (P.Pieces.others pieces.new) }) result.verdict }
     ensures closed { result.verdict ≡ verdict_of job.now (closing_world (closing_state result) (P.Pieces.first pieces.new) (P.Pieces.others pieces.new)) }
 {
-    // For the proof: a theorem, and what each method of a job tells of every job.
+    // For the proof: a theorem.
     runs_keep_the_law();
-    let _ids = job.ids();
     let session = Session::open(room, job);
     let session = pieces.run(workspace, job, session);
     pieces.close(workspace, job, session)

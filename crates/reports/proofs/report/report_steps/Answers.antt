@@ -1,5 +1,6 @@
 use Rattle.std.proofs.Common.{◌≡◌, List, ◌++◌, vec_items, ap, ◌∙◌, arith}
 use Rattle.sessions.specs.declared.call.Line.{Line}
+use Rattle.goals.specs.JobView.{sound}
 use Rattle.reports.specs.Lines.{verdict_ending}
 use Rattle.reports.specs.Told.{told_text, told_end, ending_by}
 use Rattle.reports.specs.FileSteps.{steps_in}
@@ -28,7 +29,7 @@ returns g c =
     ] in
     record {
       text =
-          report-written job c.labels_stay_known.ensures c.ids-ids.ensures.sound m (steps_in c.args.file.now) (vec_items c.add_calls.new.lines) after verdict
+          report-written job c.labels_stay_known.ensures (sound c.args.job.now) m (steps_in c.args.file.now) (vec_items c.add_calls.new.lines) after verdict
           c.match-write_answers.ending (vec_items c.args.text.now) (vec_items c.write_answers.new.text) _
           c.add_calls.ensures.items run (omega (arith, c.args.text.now.ok.0, c.requires.empty))
           (c.write_answers.ensures.items ∙ ap (λ (t : List Line). vec_items c.args.text.now ++ told_text t) same) ending c.write_ending.ensures;

@@ -1,45 +1,58 @@
-use Rattle.std.proofs.Common.{◌+◌, sym, ap, ◌∙◌, arith}
-use Rattle.std.proofs.lemmas.List.{take_all}
+use Rattle.std.proofs.Common.{take, drop, sym, ap, ◌∙◌, arith}
 use Rattle.registers.specs.Meaning.{size_of, including_all}
-use Rattle.registers.proofs.ListLaws.{including-none, new-more, held_more, listed-before-more, take_past}
+use Rattle.registers.proofs.Members.{listed_as}
+use Rattle.registers.proofs.FactSteps.{facts-left}
+use Rattle.registers.proofs.ListLaws.{including-none, new-more, held_more, listed-before-more, index-of_first, taken_all}
 use Rattle.sessions.specs.Steps.{excluding_all}
 use Rattle.sessions.proofs.change.count_new.Goals as goal
-use Rattle.sessions.proofs.change.count_new.Goals.{in-Some+then-not-stays+then-not-is_before, in-Some+else-not-stays, else-not-stays-via-then-not-stays+else-not-is_before, else-not-stays-via-else-not-stays, in_default}
+use Rattle.sessions.proofs.change.count_new.Goals.{else-not-stays-via-then-not-stays+else-not-is_before, else-not-stays-via-else-not-stays}
 
 pub loop-k-init : goal.loop-k-init
 loop-k-init g c =
-    let e = ap size_of (including-none (excluding_all (g.R.Register.meaning c.args.register.now) (g.S.FactList.listed c.args.takes.now))) in
-    (omega (arith, e), omega arith)
+    let m = excluding_all (g.R.Register.meaning c.args.register.now) (g.S.FactList.listed c.args.takes.now) in
+    let fs = g.L.FactList.listed c.args.puts.now in
+    let start = ap (λ s. s.count) c.into_iter-k-iterator.ensures.into_iter_gives ∙ c.enumerate-k-items.ensures.count in
+    let source = ap (λ s. s.iter) c.into_iter-k-iterator.ensures.into_iter_gives ∙ c.enumerate-k-items.ensures.source in (
+      ap (λ n. drop n fs) start ∙ sym (facts-left g.L.FactList.listed _ _ _ source c.facts.ensures.list c.facts.ensures.start),
+      omega (arith, ap size_of (including-none m), ap (λ n. size_of (including_all m (take n fs))) start),
+      omega arith,
+    )
+
+pub loop-k-preserved-then-not-is_before : goal.loop-k-preserved-then-not-is_before
+loop-k-preserved-then-not-is_before g c =
+    let m = excluding_all (g.R.Register.meaning c.args.register.now) (g.S.FactList.listed c.args.takes.now) in
+    let fs = g.L.FactList.listed c.args.puts.now in
+    let k = c.loop-k.k-iterator.count in
+    let first = index-of_first fs k c.in-Some.fact _ (c.loop-k.invariant.0 ∙ c.in-Some.ensures.steps.0) in
+    let further = c.in-Some.ensures.steps.2 in
+    let absent = ap (λ n. listed_as (take n fs) c.in-Some.fact) (sym c.in-Some.ensures.steps.1) ∙ sym c.if-not-is_before.ensures in (
+      ap (λ n. drop n fs) further ∙ first.1,
+      new-more m fs k c.loop-k.new c.in-Some.fact c.requires first.0 c.loop-k.invariant.1 (sym c.if-not-stays.ensures) absent
+          ∙ ap (λ n. size_of (including_all m (take n fs))) (sym further),
+      omega (arith, c.loop-k.invariant.2, further),
+    )
 
 pub loop-k-preserved : goal.loop-k-preserved
 loop-k-preserved g c =
     let m = excluding_all (g.R.Register.meaning c.args.register.now) (g.S.FactList.listed c.args.takes.now) in
     let fs = g.L.FactList.listed c.args.puts.now in
-    elim c.match-get.branch [
-      | in-Some+then-not-stays+then-not-is_before w ↦ (
-        ap (λ n. size_of m + n) w.new-is
-            ∙ new-more m fs c.loop-k.k c.loop-k.new w.in-Some.fact c.requires w.in-Some.ensures c.loop-k.invariant.0 (sym w.if-not-stays.ensures) (sym w.if-not-is_before.ensures),
-        omega (arith, w.new-is, c.loop-k.invariant.1),
-      )
-      | in-Some+else-not-stays w ↦ (
-        ap (λ n. size_of m + n) w.new-is
-            ∙ elim w.else-not-stays.branch [
-              | else-not-stays-via-then-not-stays+else-not-is_before v ↦
-                  listed-before-more m fs c.loop-k.k c.loop-k.new w.in-Some.fact w.in-Some.ensures c.loop-k.invariant.0 (sym v.if-not-is_before.ensures)
-              | else-not-stays-via-else-not-stays v ↦
-                  held_more m fs c.loop-k.k c.loop-k.new w.in-Some.fact w.in-Some.ensures c.loop-k.invariant.0 (sym v.if-not-stays.ensures)
-            ],
-        omega (arith, w.new-is, c.loop-k.invariant.1),
-      )
-      | in_default w ↦ (
-        ap (λ n. size_of m + n) w.new-is
-            ∙ (c.loop-k.invariant.0 ∙ ap (λ t. size_of (including_all m t)) (sym (take_past fs c.loop-k.k w.in_default.ensures))),
-        omega (arith, w.new-is, c.loop-k.invariant.1),
-      )
-    ]
+    let k = c.loop-k.k-iterator.count in
+    let first = index-of_first fs k c.in-Some.fact _ (c.loop-k.invariant.0 ∙ c.in-Some.ensures.steps.0) in
+    let further = c.in-Some.ensures.steps.2 in (
+      ap (λ n. drop n fs) further ∙ first.1,
+      elim c.else-not-stays.branch [
+        | else-not-stays-via-then-not-stays+else-not-is_before w ↦
+            listed-before-more m fs k c.loop-k.new c.in-Some.fact first.0 c.loop-k.invariant.1
+            (ap (λ n. listed_as (take n fs) c.in-Some.fact) (sym c.in-Some.ensures.steps.1) ∙ sym w.if-not-is_before.ensures)
+        | else-not-stays-via-else-not-stays w ↦ held_more m fs k c.loop-k.new c.in-Some.fact first.0 c.loop-k.invariant.1 (sym w.if-not-stays.ensures)
+      ]
+          ∙ ap (λ n. size_of (including_all m (take n fs))) (sym further),
+      omega (arith, c.loop-k.invariant.2, further),
+    )
 
 pub returns : goal.returns
 returns g c =
-    c.loop-k.invariant.0
-    ∙ ap (λ t. size_of (including_all (excluding_all (g.R.Register.meaning c.args.register.now) (g.S.FactList.listed c.args.takes.now)) t))
-    (take_all c.loop-k.k (g.L.FactList.listed c.args.puts.now) (omega (arith, c.count-k-end.ensures)))
+    let m = excluding_all (g.R.Register.meaning c.args.register.now) (g.S.FactList.listed c.args.takes.now) in
+    let fs = g.L.FactList.listed c.args.puts.now in
+    c.loop-k.invariant.1
+    ∙ ap (λ t. size_of (including_all m t)) (taken_all fs c.loop-k.k-iterator.count (c.loop-k.invariant.0 ∙ c.in-None.ensures.steps.0.0))

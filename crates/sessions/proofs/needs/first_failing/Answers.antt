@@ -1,26 +1,17 @@
-use Rattle.std.proofs.Common.{sym, ◌∙◌, arith}
+use Rattle.std.proofs.Common.{rules, not, ◌∙◌}
+use Rattle.std.proofs.lemmas.Iterator.{YieldsList-from_slice}
+use Rattle.std.proofs.lemmas.Iterator.Adapters.{position_from-zero}
+use Rattle.std.proofs.lemmas.Iterator.Search.{position_from_yields_List}
 use Rattle.goals.specs.Entries.{entries_of}
-use Rattle.sessions.proofs.Failing.{fails_here, holds-here, none_here, none_left}
+use Rattle.sessions.specs.Steps.{need_holds}
+use Rattle.sessions.proofs.Failing.{failing-position}
 use Rattle.sessions.proofs.needs.first_failing.Goals as goal
-use Rattle.sessions.proofs.needs.first_failing.Goals.{in-Some+else-not-need_holds, in_default}
-
-pub returns-then-not-need_holds : goal.returns-then-not-need_holds
-returns-then-not-need_holds g c =
-    sym (c.loop-k.invariant
-    ∙ fails_here (g.R.Register.meaning c.args.register.now) c.args.arguments (entries_of c.args.needs.now) c.loop-k.k c.in-Some.need c.in-Some.ensures c.if-not-need_holds.ensures)
-
-pub loop-k-preserved : goal.loop-k-preserved
-loop-k-preserved g c =
-    let m = g.R.Register.meaning c.args.register.now in
-    let es = entries_of c.args.needs.now in
-    c.loop-k.invariant
-    ∙ elim c.match-get.branch [
-      | in-Some+else-not-need_holds w ↦ holds-here m c.args.arguments es c.loop-k.k w.in-Some.need w.in-Some.ensures w.if-not-need_holds.ensures
-      | in_default w ↦ none_here m c.args.arguments es c.loop-k.k w.in_default.ensures
-    ]
 
 pub returns : goal.returns
 returns g c =
-    sym (c.loop-k.invariant
-    ∙ none_left (g.R.Register.meaning c.args.register.now) c.args.arguments (entries_of c.args.needs.now) c.loop-k.k
-    (omega (arith, c.count-k-end.ensures)))
+    let m = g.R.Register.meaning c.args.register.now in
+    let a = c.args.arguments in
+    let es = entries_of c.args.needs.now in
+    position_from_yields_List (λ e. not (need_holds m a e)) c.position.new.self _ _ c.position.ensures.ran (YieldsList-from_slice es (cc))
+    (λ x b q k. search rules)
+    ∙ (position_from-zero (λ e. not (need_holds m a e)) es ∙ failing-position m a 0 es)

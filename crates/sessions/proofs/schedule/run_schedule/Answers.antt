@@ -1,4 +1,5 @@
 use Rattle.sessions.specs.SessionView.{session_state, closing_state}
+use Rattle.goals.specs.JobView.{sound}
 use Rattle.sessions.proofs.Turns.{state-is, parts_are, verdict_is, keeps-law, is_uncut}
 use Rattle.sessions.proofs.schedule.run_schedule.Goals as goal
 
@@ -22,6 +23,6 @@ returns g c =
       state = state-is job p q ps qs s₀ s₁ s₂ v e₀ e₁ eq e₂ ev;
       parts = parts_are job p q ps qs s₀ s₁ s₂ v e₀ e₁ eq e₂ ev;
       closed = verdict_is job p q ps qs s₀ s₁ s₂ v e₀ e₁ eq e₂ ev;
-      law = keeps-law job p q ps qs s₀ s₁ s₂ v e₀ e₁ eq e₂ ev c.runs_keep_the_law.ensures c.ids-ids.ensures.sound;
+      law = keeps-law job p q ps qs s₀ s₁ s₂ v e₀ e₁ eq e₂ ev c.runs_keep_the_law.ensures (sound c.args.job.now);
       cut = is_uncut job p q ps qs s₀ s₁ s₂ v e₀ e₁ eq e₂ ev;
     }

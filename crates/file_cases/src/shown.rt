@@ -8,25 +8,19 @@ use std::fmt;
 
 // What filling answered, as text: the number of nodes that the goal has or, refused, the number with what the fault tells.
 #[derive(Clone, Copy)]
-pub enum ShownFilling {
-    Accepted(usize),
-    Refused(FillFault),
-}
+pub struct ShownFilling(Result<usize, FillFault>);
 
 impl ShownFilling {
     pub fn of(answer: Result<Job, FillFault>) -> ShownFilling {
-        match answer {
-            Ok(job) => ShownFilling::Accepted(job.node_count()),
-            Err(fault) => ShownFilling::Refused(fault),
-        }
+        ShownFilling(answer.map(|job| job.node_count()))
     }
 }
 
 impl fmt::Display for ShownFilling {
     fn fmt<W: fmt::Write>(&self, f: &mut fmt::Formatter<W>) -> fmt::Result {
-        match *self {
-            ShownFilling::Accepted(nodes) => write!(f, "accepted with {nodes} nodes"),
-            ShownFilling::Refused(fault) => {
+        match self.0 {
+            Ok(nodes) => write!(f, "accepted with {nodes} nodes"),
+            Err(fault) => {
                 let number = fault.number();
                 write!(f, "refused {number}")?;
                 show_details(fault, f)

@@ -23,12 +23,9 @@ fn main(rt: HostRuntime) -> io::Result<()> {
 }
 
 fn is_timed(rt: &HostRuntime) -> io::Result<bool> {
-    for argument in env::args(rt)?.skip(1) {
-        if argument.as_str() == "time" {
-            return Ok(true);
-        }
-    }
-    Ok(false)
+    Ok(env::args(rt)?
+        .skip(1)
+        .any(|argument| argument.as_str() == "time"))
 }
 
 fn print_text(

@@ -9,17 +9,13 @@ use std::io;
 
 fn predicate(places: u8, word: &[u8]) -> Predicate {
     let mut name = [0u8; 16];
-    let mut length = 0;
-    for b in word {
-        if length < 16 {
-            name[length] = *b;
-            length += 1;
-        }
+    for (place, letter) in name.iter_mut().zip(word) {
+        *place = *letter;
     }
     Predicate {
         places,
         name,
-        length,
+        length: word.len().min(16),
     }
 }
 
@@ -41,12 +37,10 @@ fn answer(rt: &HostRuntime, text: &[u8]) -> io::Result<()> {
 }
 
 fn refuse(rt: &HostRuntime, fault: GoalFault) -> io::Result<()> {
-    match fault {
-        GoalFault::TooLong => println!(rt; "refused 3"),
-        GoalFault::Follow(place) => println!(rt; "refused 4 at {place}"),
-        GoalFault::Unknown(place) => println!(rt; "refused 5 at {place}"),
-        GoalFault::Range(place) => println!(rt; "refused 6 at {place}"),
-        GoalFault::Limit(place) => println!(rt; "refused 7 at {place}"),
+    let number = fault.number();
+    match fault.place() {
+        Some(place) => println!(rt; "refused {number} at {place}"),
+        None => println!(rt; "refused {number}"),
     }
 }
 

@@ -19,11 +19,7 @@ impl<'a> FactList for FactSlice<'a> {
     }
 
     fn get(&self, index: usize) -> Option<Fact> {
-        if index < self.0.len() {
-            Some(self.0[index])
-        } else {
-            None
-        }
+        self.0.get(index).copied()
     }
 }
 
@@ -142,14 +138,8 @@ const LIST_CASES: [ListCase; 11] = [
 ];
 
 // How many facts of a slice are held, a repeated one as often as it stands there.
-fn count_held<R: Register>(register: &R, facts: &[Fact]) -> u32 {
-    let mut count: u32 = 0;
-    for fact in facts {
-        if register.holds(*fact) {
-            count = count.wrapping_add(1);
-        }
-    }
-    count
+fn count_held<R: Register>(register: &R, facts: &[Fact]) -> usize {
+    facts.iter().filter(|fact| register.holds(**fact)).count()
 }
 
 fn print_case<R: Register>(

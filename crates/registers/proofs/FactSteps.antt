@@ -1,5 +1,5 @@
 -- Going through the facts of a list, from its beginning.
-use Rattle.std.proofs.Common.{◌≡◌, ℕ, List, drop, sym, refl, ap, ◌∙◌}
+use Rattle.std.proofs.Common.{◌≡◌, List, drop, ap, ◌∙◌}
 use Rattle.std.specs.Iterator.{YieldsFirst}
 use Rattle.std.proofs.lemmas.Iterator.{YieldsList}
 use Rattle.std.proofs.lemmas.Iterator.Consumers.{YieldsList-from_first}

@@ -1,14 +1,14 @@
 -- Laws of putting whole lists: membership, size and limit with every fact of a list in, one more fact at a time.
 use Rattle.std.proofs.Common.{◌≡◌, ℕ, zero, suc, ◌+◌, ◌<◌, ◌≤◌, Bool, true, false, cond, not, ◌&&◌, ◌||◌, ltb, leb, List, [], ◌∷◌, ◌++◌, length, take, drop, is_ok, Option, Some, None, MatchOption, Ok, Err, Result, sym, refl, ap, ◌∙◌, ⊎_elim, arith}
 use Rattle.std.specs.List.{slice_get, list_all, list_any}
-use Rattle.std.proofs.lemmas.List.{append-nil, take-append-drop, take_all, drop_all}
-use Rattle.std.proofs.lemmas.Bool.{cases_Bool, cond-true, cond-false, not_from_true, not_from_false, and_parts, or_from, or_left, or_right, lt-ltb, le-ltb, leb-true, leb-false}
+use Rattle.std.proofs.lemmas.List.{append-nil, take-append-drop}
+use Rattle.std.proofs.lemmas.Bool.{cases_Bool, cond-true, cond-false, not_from_true, not_from_false, and_parts, lt-ltb, le-ltb, leb-true, leb-false}
 use Rattle.registers.specs.declared.fact.Fact.{Fact}
 use Rattle.registers.specs.declared.refusal.Refusal.{Refusal}
 use Rattle.registers.specs.declared.refusal.Refusal.TheVariants.{OutOfBounds, Full}
 use Rattle.registers.specs.Meaning.{Meaning, has, size_of, limit_of, allowed, including, after_put, including_all, all_allowed, put_all_answer, after_put_all}
 use Rattle.registers.specs.Records.{listed, is_record}
-use Rattle.registers.proofs.Members.{listed_as, listed-push}
+use Rattle.registers.proofs.Members.{listed_as}
 use Rattle.registers.proofs.Laws.{is, has-including, including_held, limit-including, size-including, size-including_le, size-including_ge, put_held, put-room}
 
 -- reading a list by its index
@@ -98,14 +98,6 @@ pub size-all_le : (m : Meaning) (fs : List Fact) → size_of (including_all m fs
 unfolding including_all
 size-all_le m [] = omega arith
 size-all_le m (f ∷ fs) = omega (arith, size-including_le m f, size-all_le (including m f) fs)
-
--- with the first facts in there are no more than with all
-pub size-part_le : (m : Meaning) (fs : List Fact) (k : ℕ) → size_of (including_all m (take k fs)) ≤ size_of (including_all m fs)
-size-part_le m fs k =
-    let e : including_all m fs ≡ including_all (including_all m (take k fs)) (drop k fs)
-    = ap (including_all m) (sym (take-append-drop k fs)) ∙ including-append m (take k fs) (drop k fs) in
-    let s : size_of (including_all m fs) ≡ size_of (including_all (including_all m (take k fs)) (drop k fs)) = ap size_of e in
-    omega (arith, size-all_ge (including_all m (take k fs)) (drop k fs), s)
 
 or_swap : (s h l : Bool) → (cond s true h || l) ≡ (h || (s || l))
 or_swap true true l = refl
@@ -204,48 +196,12 @@ all_room m fs a l =
     (sym (inside m fs a ∙ cond-false (ltb (limit_of m) (size_of (including_all m fs))) _ _ (le-ltb _ _ (leb-true _ _ l))))
     refl
 
--- an index past the end adds nothing
-pub past_none : {X : Type 0} (xs : List X) (k : ℕ) → None ≡ slice_get xs k → length xs ≤ k
-past_none [] k e = omega arith
-past_none (y ∷ ys) zero e = let z : ◌≡◌ {A = ℕ} 0 1 = cc in absurd (omega arith)
-past_none (y ∷ ys) (suc k) e = omega (arith, past_none ys k e)
-
-pub take_past : {X : Type 0} (xs : List X) (k : ℕ) → None ≡ slice_get xs k → take (k + 1) xs ≡ take k xs
-take_past xs k e = take_all (k + 1) xs (omega (arith, past_none xs k e)) ∙ sym (take_all k xs (past_none xs k e))
-
-pub drop_past : {X : Type 0} (xs : List X) (k : ℕ) → None ≡ slice_get xs k → drop k xs ≡ drop (k + 1) xs
-drop_past xs k e = drop_all k xs (past_none xs k e) ∙ sym (drop_all (k + 1) xs (omega (arith, past_none xs k e)))
-
 -- finding a fact among the first ones of a list
-
-pub listed-none : (f : Fact) → listed_as [] f ≡ false
-unfolding listed
-listed-none f = refl
 
 pub listed-any : (f : Fact) (fs : List Fact) → list_any (is_record f) fs ≡ listed_as fs f
 unfolding listed
 listed-any f [] = refl
 listed-any f (x ∷ fs) = ap (λ t. is_record f x || t) (listed-any f fs)
-
-pub listed-more-at : (fs : List Fact) (k : ℕ) (x f : Fact) → Some x ≡ slice_get fs k → listed_as (take k fs) f ≡ false → is x f ≡ false →
-    listed_as (take (k + 1) fs) f ≡ false
-listed-more-at fs k x f e h s =
-    ap (λ t. listed_as t f) (take-at_index fs k x e)
-    ∙ (listed-push x (take k fs) f.predicate f.first f.second ∙ or_from (is x f) _ s h)
-
-pub listed-found-at : (fs : List Fact) (n k : ℕ) (x f : Fact) → k < n → Some x ≡ slice_get fs k → is x f ≡ true → listed_as (take n fs) f ≡ true
-unfolding listed
-listed-found-at [] n k x f l e s = let z : ◌≡◌ {A = ℕ} 0 1 = cc in absurd (omega arith)
-listed-found-at (y ∷ ys) zero k x f l e s = absurd (omega arith)
-listed-found-at (y ∷ ys) (suc n) zero x f l e s =
-    let q : x ≡ y = cc in or_left (is y f) _ (ap (λ t. is t f) (sym q) ∙ s)
-listed-found-at (y ∷ ys) (suc n) (suc k) x f l e s =
-    or_right (is y f) _ (listed-found-at ys n k x f (omega arith) e s)
-
--- one fact more is tested for its bounds
-pub allowed-drop : (fs : List Fact) (k : ℕ) (f : Fact) (v : Bool) → Some f ≡ slice_get fs k → v ≡ allowed f → all_allowed (drop k fs) ≡ (v && all_allowed (drop (k + 1) fs))
-allowed-drop fs k f v e h =
-    ap all_allowed (drop-at_index fs k f e) ∙ (allowed_cons f (drop (k + 1) fs) ∙ ap (λ t. t && all_allowed (drop (k + 1) fs)) (sym h))
 
 -- where nothing is left behind an index, all are before it
 pub taken_all : {X : Type 0} (xs : List X) (k : ℕ) → drop k xs ≡ [] → take k xs ≡ xs

@@ -38,20 +38,15 @@ fn main(rt: HostRuntime) -> anyhow::Result<()> {
 }
 
 fn sum_of(bytes: &[u8]) -> u16 {
-    let mut sum: u16 = 0;
-    for byte in bytes {
-        sum = sum.wrapping_add(u16::from(*byte));
-    }
-    sum
+    bytes
+        .iter()
+        .fold(0, |sum: u16, byte| sum.wrapping_add(u16::from(*byte)))
 }
 
 fn is_timed(rt: &HostRuntime) -> anyhow::Result<bool> {
-    for argument in env::args(rt)?.skip(1) {
-        if argument.as_str() == "time" {
-            return Ok(true);
-        }
-    }
-    Ok(false)
+    Ok(env::args(rt)?
+        .skip(1)
+        .any(|argument| argument.as_str() == "time"))
 }
 
 fn quickest(rt: &HostRuntime, file: &[u8]) -> anyhow::Result<u128> {

@@ -1,4 +1,4 @@
-use Rattle.std.proofs.Common.{◌≡◌, ◌+◌, take, drop, sym, ap, ◌∙◌, arith}
+use Rattle.std.proofs.Common.{take, drop, sym, ap, ◌∙◌, arith}
 use Rattle.registers.specs.Meaning.{size_of, including_all}
 use Rattle.registers.proofs.Members.{listed_as}
 use Rattle.registers.proofs.FactSteps.{facts-left}
@@ -11,8 +11,7 @@ loop-k-init g c =
     let m = g.R.Register.meaning c.args.register.now in
     let fs = g.L.FactList.listed c.args.list.now in
     let start = ap (λ s. s.count) c.into_iter-k-iterator.ensures.into_iter_gives ∙ c.enumerate-k-items.ensures.count in
-    let source = ap (λ s. s.iter) c.into_iter-k-iterator.ensures.into_iter_gives ∙ c.enumerate-k-items.ensures.source in
-    (
+    let source = ap (λ s. s.iter) c.into_iter-k-iterator.ensures.into_iter_gives ∙ c.enumerate-k-items.ensures.source in (
       ap (λ n. drop n fs) start ∙ sym (facts-left g.L.FactList.listed _ _ _ source c.facts.ensures.list c.facts.ensures.start),
       omega (arith, ap size_of (including-none m), ap (λ n. size_of (including_all m (take n fs))) start),
       omega arith,
@@ -25,8 +24,7 @@ loop-k-preserved-then-not-is_before g c =
     let k = c.loop-k.k-iterator.count in
     let first = index-of_first fs k c.in-Some.fact _ (c.loop-k.invariant.0 ∙ c.in-Some.ensures.steps.0) in
     let further = c.in-Some.ensures.steps.2 in
-    let absent = ap (λ n. listed_as (take n fs) c.in-Some.fact) (sym c.in-Some.ensures.steps.1) ∙ sym c.if-not-is_before.ensures in
-    (
+    let absent = ap (λ n. listed_as (take n fs) c.in-Some.fact) (sym c.in-Some.ensures.steps.1) ∙ sym c.if-not-is_before.ensures in (
       ap (λ n. drop n fs) further ∙ first.1,
       new-more m fs k c.loop-k.new c.in-Some.fact c.requires first.0 c.loop-k.invariant.1 (sym c.if-not-holds.ensures) absent
           ∙ ap (λ n. size_of (including_all m (take n fs))) (sym further),
@@ -39,13 +37,12 @@ loop-k-preserved g c =
     let fs = g.L.FactList.listed c.args.list.now in
     let k = c.loop-k.k-iterator.count in
     let first = index-of_first fs k c.in-Some.fact _ (c.loop-k.invariant.0 ∙ c.in-Some.ensures.steps.0) in
-    let further = c.in-Some.ensures.steps.2 in
-    (
+    let further = c.in-Some.ensures.steps.2 in (
       ap (λ n. drop n fs) further ∙ first.1,
       elim c.else-not-holds.branch [
         | else-not-holds-via-then-not-holds+else-not-is_before w ↦
             listed-before-more m fs k c.loop-k.new c.in-Some.fact first.0 c.loop-k.invariant.1
-                (ap (λ n. listed_as (take n fs) c.in-Some.fact) (sym c.in-Some.ensures.steps.1) ∙ sym w.if-not-is_before.ensures)
+            (ap (λ n. listed_as (take n fs) c.in-Some.fact) (sym c.in-Some.ensures.steps.1) ∙ sym w.if-not-is_before.ensures)
         | else-not-holds-via-else-not-holds w ↦ held_more m fs k c.loop-k.new c.in-Some.fact first.0 c.loop-k.invariant.1 (sym w.if-not-holds.ensures)
       ]
           ∙ ap (λ n. size_of (including_all m (take n fs))) (sym further),

@@ -2,6 +2,7 @@
 use Rattle.std.proofs.Common.{◌≡◌, ℕ, ◌+◌, ◌<◌, ◌≤◌, Bool, true, false, cond, not, ◌||◌, eqb, List, [], ◌∷◌, ◌++◌, length, Some, None, Option, sym, refl, ap, ◌∙◌, ap₂, append-nil, arith, Bor, eqb-true}
 use mathlib.Core.Bool.{or-false}
 use borrow.Author.Tests.{eqb-false}
+use Rattle.std.specs.Option.{is_some}
 use Rattle.std.proofs.lemmas.Bool.{cond-true, cond-false, both_ways}
 use Rattle.goals.specs.declared.goal.Variable.{Variable}
 use Rattle.goals.specs.declared.goal.Variable.TheVariants.{Outer, Inner}
@@ -37,33 +38,20 @@ use Rattle.goals.proofs.Moves.{step, fail, overrun, still-then, still-passed}
 use Rattle.goals.proofs.Terms.{expected, unexpected}
 
 -- a letter in use
-pub use_some : (ls : Letters) (v : ℕ) (u : Variable) → variable_of ls v ≡ Some u → in_use ls v ≡ true
-use_some Free v u e = let z : ◌≡◌ {A = ℕ} 0 1 = cc in absurd (omega arith)
-use_some (One a) v u e = pick (eqb a v) refl e
+-- a letter is in use exactly if a variable is found for it
+pub use_found : (ls : Letters) (v : ℕ) → in_use ls v ≡ is_some (variable_of ls v)
+use_found Free v = refl
+use_found (One a) v = pick (eqb a v)
   where
-    pick : (b : Bool) → eqb a v ≡ b → cond b (Some Outer) None ≡ Some u → eqb a v ≡ true
-    pick true q f = q
-    pick false q f = let z : ◌≡◌ {A = ℕ} 0 1 = cc in absurd (omega arith)
-use_some (Two a b) v u e = pick (eqb a v) (eqb b v) refl e
+    pick : (x : Bool) → x ≡ is_some (cond x (Some Outer) None)
+    pick true = refl
+    pick false = refl
+use_found (Two a b) v = pick (eqb a v) (eqb b v)
   where
-    pick : (x y : Bool) → eqb b v ≡ y → cond x (Some Outer) (cond y (Some Inner) None) ≡ Some u → (x || eqb b v) ≡ true
-    pick true y q f = refl
-    pick false true q f = q
-    pick false false q f = let z : ◌≡◌ {A = ℕ} 0 1 = cc in absurd (omega arith)
-
-pub use_none : (ls : Letters) (v : ℕ) → variable_of ls v ≡ None → in_use ls v ≡ false
-use_none Free v e = refl
-use_none (One a) v e = pick (eqb a v) refl e
-  where
-    pick : (b : Bool) → eqb a v ≡ b → cond b (Some Outer) None ≡ None → eqb a v ≡ false
-    pick true q f = let z : ◌≡◌ {A = ℕ} 0 1 = cc in absurd (omega arith)
-    pick false q f = q
-use_none (Two a b) v e = pick (eqb a v) (eqb b v) refl e
-  where
-    pick : (x y : Bool) → eqb b v ≡ y → cond x (Some Outer) (cond y (Some Inner) None) ≡ None → (x || eqb b v) ≡ false
-    pick true y q f = let z : ◌≡◌ {A = ℕ} 0 1 = cc in absurd (omega arith)
-    pick false true q f = let z : ◌≡◌ {A = ℕ} 0 1 = cc in absurd (omega arith)
-    pick false false q f = q
+    pick : (x y : Bool) → (x || y) ≡ is_some (cond x (Some Outer) (cond y (Some Inner) None))
+    pick true y = refl
+    pick false true = refl
+    pick false false = refl
 
 -- a bound has its variable exactly if one of its terms stands for it
 module _ (ls : Letters) (v : ℕ) (room : has_room ls ≡ true) (fresh : in_use ls v ≡ false) where

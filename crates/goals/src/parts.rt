@@ -26,10 +26,10 @@ const MOST_HOURS: u16 = 10000;
 pub fn variable(letters: Letters, letter: u8, place: usize) -> Result<Term, GoalFault>
     ensures { VariableSays letters letter place result }
 {
-    match letters.find(letter) {
-        Some(variable) => Ok(Term::Bound(variable)),
-        None => Err(GoalFault::Unknown(place)),
-    }
+    letters
+        .find(letter)
+        .map(Term::Bound)
+        .ok_or(GoalFault::Unknown(place))
 }
 
 // The term of an id's digits.
@@ -88,31 +88,26 @@ pub fn test(
         return Err(GoalFault::Unknown(called.place));
     };
     s.take(nodes, called.place, called.after)?;
-    let predicate = sense.predicate;
-    let none = Term::Id(0);
+    let bare = Atom {
+        predicate: sense.predicate,
+        first: Term::Id(0),
+        second: Term::Id(0),
+    };
     if sense.places == 0 {
-        return Ok(Atom {
-            predicate,
-            first: none,
-            second: none,
-        });
+        return Ok(bare);
     }
     expect(words, '(', s)?;
     let first = operand(words, scope, s)?;
     if sense.places == 1 {
         expect(words, ')', s)?;
-        return Ok(Atom {
-            predicate,
-            first,
-            second: none,
-        });
+        return Ok(Atom { first, ..bare });
     }
     let second = second(words, scope, s)?;
     expect(words, ')', s)?;
     Ok(Atom {
-        predicate,
         first,
         second,
+        ..bare
     })
 }
 
@@ -179,28 +174,10 @@ pub fn ends(words: Words<'_>, s: &mut Progress) -> Result<Ends, GoalFault>
     })
 }
 
-fn same(one: Variable, other: Variable) -> bool
-    ensures { result ≡ same_variable one other }
-{
-    match one {
-        Variable::Outer => match other {
-            Variable::Outer => true,
-            Variable::Inner => false,
-        },
-        Variable::Inner => match other {
-            Variable::Outer => false,
-            Variable::Inner => true,
-        },
-    }
-}
-
 fn stands_for(term: Term, variable: Variable) -> bool
     ensures { result ≡ is_bound variable term }
 {
-    match term {
-        Term::Id(_) => false,
-        Term::Bound(bound) => same(bound, variable),
-    }
+    term == Term::Bound(variable)
 }
 
 // The name of a quantifier's bound.
@@ -224,7 +201,7 @@ fn bound(words: Words<'_>, scope: Scope, s: &mut Progress) -> Result<Bound, Goal
     let Token::Variable(letter, place) = token else {
         return Err(GoalFault::Follow(place_of(token)));
     };
-    if let Some(_) = scope.letters.find(letter) {
+    if scope.letters.find(letter).is_some() {
         return Err(GoalFault::Unknown(place));
     }
     s.pass(after);

@@ -1,4 +1,5 @@
 use Rattle.std.proofs.Common.{sym, ap, ◌∙◌, subst}
+use Rattle.std.specs.Option.{is_some}
 use Rattle.goals.specs.Tokens.{lexed, variable}
 use Rattle.goals.specs.Seen.{seen}
 use Rattle.goals.specs.Reading.{run, fault, binds}
@@ -7,7 +8,7 @@ use Rattle.goals.specs.Promises.{vocabulary, text_of, BoundSays, TestRead, is_bo
 use Rattle.std.proofs.lemmas.Bool.{or_left, or_right, or_from}
 use Rattle.goals.proofs.Moves.{here}
 use Rattle.goals.proofs.Terms.{broke, told_as}
-use Rattle.goals.proofs.Prefixes.{no_variable, use_some, use_none, binds_fail, colon_fault, name-fault, test-fault, lacking, bound-read}
+use Rattle.goals.proofs.Prefixes.{no_variable, use_found, binds_fail, colon_fault, name-fault, test-fault, lacking, bound-read}
 use Rattle.goals.proofs.parts.bound.Goals as goal
 use Rattle.goals.proofs.parts.bound.Goals.{then-stands_for-via-then-stands_for, then-stands_for-via-else-stands_for+then-stands_for-2}
 
@@ -20,13 +21,13 @@ returns-in_default c =
     ∙ no_variable (vocabulary W) p.count x k n.result.0 (lexed (text_of W) n.result.1) c.in_default.not-Variable
     ∙ ap (fault 4) (sym c.place_of.ensures)
 
-pub returns-in-Some : goal.returns-in-Some
-returns-in-Some c =
+pub returns-then-is_some : goal.returns-then-is_some
+returns-then-is_some c =
     let W = c.args.words in
     let n = c.next_token-after in
     let v = c.in-Variable.letter in
     let h = here W c.args.s.now n.result.0 n.result.1 (variable v) c.in-Variable.place n.ensures.value n.ensures.further n.ensures.high (ap (λ t. seen t (lexed (text_of W) n.result.1)) c.in-Variable.is) in
-    binds_fail h c.args.scope (use_some c.args.scope.letters v _ (sym c.find.ensures ∙ c.in-Some.is))
+    binds_fail h c.args.scope (use_found c.args.scope.letters v ∙ ap is_some (sym c.find.ensures) ∙ sym c.if-is_some.ensures)
 
 pub returns-in_err-expect : goal.returns-in_err-expect
 returns-in_err-expect c =
@@ -34,7 +35,7 @@ returns-in_err-expect c =
     let n = c.next_token-after in
     let v = c.in-Variable.letter in
     let h = here W c.args.s.now n.result.0 n.result.1 (variable v) c.in-Variable.place n.ensures.value n.ensures.further n.ensures.high (ap (λ t. seen t (lexed (text_of W) n.result.1)) c.in-Variable.is) in
-    let f = use_none c.args.scope.letters v (sym c.find.ensures ∙ c.in_default-find.is) in
+    let f = use_found c.args.scope.letters v ∙ ap is_some (sym c.find.ensures) ∙ sym c.if-is_some.ensures in
     let x = c.in_err-expect.ensures in
     broke (BoundSays W c.args.scope c.args.s.now _) _ c.from_residual.result c.from_residual.ensures.1
     (λ y k e. told_as x.0 (colon_fault h c.args.scope c.pass.ensures f x.1 y k e))
@@ -45,7 +46,7 @@ returns-in_err-named c =
     let n = c.next_token-after in
     let v = c.in-Variable.letter in
     let h = here W c.args.s.now n.result.0 n.result.1 (variable v) c.in-Variable.place n.ensures.value n.ensures.further n.ensures.high (ap (λ t. seen t (lexed (text_of W) n.result.1)) c.in-Variable.is) in
-    let f = use_none c.args.scope.letters v (sym c.find.ensures ∙ c.in_default-find.is) in
+    let f = use_found c.args.scope.letters v ∙ ap is_some (sym c.find.ensures) ∙ sym c.if-is_some.ensures in
     broke (BoundSays W c.args.scope c.args.s.now _) _ c.from_residual-in_err-named.result c.from_residual-in_err-named.ensures.1
     (name-fault h c.args.scope c.pass.ensures f c.in_ok-expect.ensures _ c.in_err-named.ensures)
 
@@ -55,7 +56,7 @@ returns-in_err-atom c =
     let n = c.next_token-after in
     let v = c.in-Variable.letter in
     let h = here W c.args.s.now n.result.0 n.result.1 (variable v) c.in-Variable.place n.ensures.value n.ensures.further n.ensures.high (ap (λ t. seen t (lexed (text_of W) n.result.1)) c.in-Variable.is) in
-    let f = use_none c.args.scope.letters v (sym c.find.ensures ∙ c.in_default-find.is) in
+    let f = use_found c.args.scope.letters v ∙ ap is_some (sym c.find.ensures) ∙ sym c.if-is_some.ensures in
     let b = c.binding.ensures in
     broke (BoundSays W c.args.scope c.args.s.now _) _ c.from_residual-in_err-atom.result c.from_residual-in_err-atom.ensures.1
     (test-fault h c.args.scope c.pass.ensures f c.in_ok-expect.ensures _ (λ r d e. c.in_err-atom.ensures r (d ∙ sym b) e))
@@ -66,7 +67,7 @@ returns-then-stands_for c =
     let n = c.next_token-after in
     let v = c.in-Variable.letter in
     let h = here W c.args.s.now n.result.0 n.result.1 (variable v) c.in-Variable.place n.ensures.value n.ensures.further n.ensures.high (ap (λ t. seen t (lexed (text_of W) n.result.1)) c.in-Variable.is) in
-    let f = use_none c.args.scope.letters v (sym c.find.ensures ∙ c.in_default-find.is) in
+    let f = use_found c.args.scope.letters v ∙ ap is_some (sym c.find.ensures) ∙ sym c.if-is_some.ensures in
     let a = c.in_ok-atom.atom in
     let t = subst (λ z. TestRead W z 0 c.in_ok-named.named.place c.expect.new.s c.test.new.s a) c.binding.ensures c.in_ok-atom.ensures in
     let v = c.next-variable.ensures in
@@ -82,7 +83,7 @@ returns c =
     let n = c.next_token-after in
     let v = c.in-Variable.letter in
     let h = here W c.args.s.now n.result.0 n.result.1 (variable v) c.in-Variable.place n.ensures.value n.ensures.further n.ensures.high (ap (λ t. seen t (lexed (text_of W) n.result.1)) c.in-Variable.is) in
-    let f = use_none c.args.scope.letters v (sym c.find.ensures ∙ c.in_default-find.is) in
+    let f = use_found c.args.scope.letters v ∙ ap is_some (sym c.find.ensures) ∙ sym c.if-is_some.ensures in
     let a = c.in_ok-atom.atom in
     let t = subst (λ z. TestRead W z 0 c.in_ok-named.named.place c.expect.new.s c.test.new.s a) c.binding.ensures c.in_ok-atom.ensures in
     let v = c.next-variable.ensures in

@@ -19,7 +19,7 @@ module _ {p q : Progress} {n : Node} {j : ℕ} (a : Added p q n j) where
   added_last = let e = one_more in let d = a.number in omega (arith, e, d)
 
   pub closed-one : (x : Prefix) (i : ℕ) → closed x i (length (items p)) ≡ n ∷ [] → Closed p q x i j
-  closed-one x i e = record { grows = a.grows ∙ ap (λ l. items p ++ l) (sym e); last = added_last; at_same = a.at_same; count_same = a.count_same }
+  closed-one x i e = record { grows = a.grows ∙ ap (λ l. items p ++ l) (sym e); last = added_last; rest_same = a.rest_same; count_same = a.count_same }
 
 pub closed_three : {p q1 q2 q : Progress} {e : Ends} {t i a b j : ℕ} (x : Prefix) → x ≡ prefix.Always e t → Added p q1 (node.Not i) a → Added q1 q2 (node.Until e t a) b → Added q2 q (node.Not b) j → Closed p q x i j
 closed_three {p} {q1} {q2} {q} {e} {t} {i} {a} {b} {j} x is k l m =
@@ -34,6 +34,6 @@ closed_three {p} {q1} {q2} {q} {e} {t} {i} {a} {b} {j} x is k l m =
           ∙ ap₂ (λ u v. items p ++ node.Not i ∷ node.Until e t u ∷ node.Not v ∷ []) ea eb
           ∙ ap (λ y. items p ++ closed y i n) (sym is);
       last = added_last m;
-      at_same = m.at_same ∙ l.at_same ∙ k.at_same;
+      rest_same = m.rest_same ∙ l.rest_same ∙ k.rest_same;
       count_same = m.count_same ∙ l.count_same ∙ k.count_same;
     }

@@ -1,6 +1,7 @@
 -- Names and numbers: a search for a name goes on by one, and a number grows by one digit.
 use Rattle.std.proofs.Common.{◌≡◌, ℕ, zero, suc, ◌+◌, ◌-◌, ◌*◌, ◌<◌, ◌≤◌, min, Bool, true, false, List, [], ◌∷◌, length, get_or, take, drop, Decides, sym, refl, ap, ◌∙◌, add-one, arith, length-take, drop-cons, get_or-take}
 use Rattle.std.proofs.lemmas.Bool.{cond-true, cond-false, both_ways}
+use Rattle.std.specs.List.{fold}
 use Rattle.std.specs.Str.{bytes_eq}
 use Rattle.std.proofs.lemmas.Slice.Eq.{bytes_eq-Decides}
 use Rattle.goals.specs.declared.predicate.Predicate.{Predicate}
@@ -46,10 +47,15 @@ stopped m (d ∷ ds) =
     stopped (m * 10 + (d - 48)) ds ∙ ap (λ n. capped n ds) (let e : min (m * 10 + (d - 48)) 65535 ≡ min (min m 65535 * 10 + (d - 48)) 65535 = omega arith in e)
     ∙ sym (stopped (min m 65535 * 10 + (d - 48)) ds)
 
-pub digit_more : (ds : List ℕ) (i n m : ℕ) → i < length ds → m ≡ min (n * 10 + (get_or ds i 0 - 48)) 65535 → capped n (drop i ds) ≡ capped m (drop (i + 1) ds)
-digit_more ds i n m h e =
-    let f : drop i ds ≡ get_or ds i 0 ∷ drop (i + 1) ds = rw add-one (drop-cons ds i 0 h) in
-    ap (capped n) f ∙ stopped (n * 10 + (get_or ds i 0 - 48)) (drop (i + 1) ds) ∙ ap (λ k. capped k (drop (i + 1) ds)) (sym e)
+-- one digit more, as the code adds it
+abbrev pub digit : ℕ → ℕ → ℕ
+digit n d = min (min (n * 10) 65535 + (d - 48)) 65535
 
-pub digit_last : (ds : List ℕ) (i n : ℕ) → length ds ≤ i → n ≤ 65535 → n ≡ capped n (drop i ds)
-digit_last ds i n h g = sym (ap (capped n) (past ds i h) ∙ omega arith)
+folded : (n : ℕ) (ds : List ℕ) → n ≤ 65535 → fold digit n ds ≡ capped n ds
+folded n [] h = omega arith
+folded n (d ∷ ds) h =
+    folded (digit n d) ds (omega arith) ∙ ap (λ k. capped k ds) (let e : digit n d ≡ min (n * 10 + (d - 48)) 65535 = omega arith in e)
+    ∙ sym (stopped (n * 10 + (d - 48)) ds)
+
+pub digits_folded : (ds : List ℕ) → fold digit 0 ds ≡ capped 0 ds
+digits_folded ds = folded 0 ds (omega arith)

@@ -1,15 +1,20 @@
 -- One token of a reading at a time.
-use Rattle.std.proofs.Common.{◌≡◌, ℕ, ◌+◌, ◌<◌, ◌≤◌, Bool, true, false, eqb, leb, [], ◌∷◌, length, sym, refl, ap, ◌∙◌, ap₂, arith, ne_eqb, le-leb}
+use Rattle.std.proofs.Common.{◌≡◌, ℕ, ◌+◌, ◌<◌, ◌≤◌, Bool, true, false, eqb, leb, [], ◌∷◌, length, sym, refl, ap, ◌∙◌, subst, ap₂, arith, ne_eqb, le-leb}
 use borrow.Author.Tests.{lt-leb}
 use Rattle.std.proofs.lemmas.Bool.{cond-true, cond-false}
-use Rattle.goals.specs.declared.words.Words.{Words}
 use Rattle.goals.specs.declared.progress.Progress.{Progress}
-use Rattle.goals.specs.Tokens.{Tok, word, variable, digits, mark, bad, Source, end, next, lexed}
+use Rattle.goals.specs.declared.progress.Prefix.{Prefix}
+use Rattle.goals.specs.declared.goal.Node.{Node}
+use Rattle.goals.specs.Tokens.{Tok, word, variable, digits, mark, bad, Source, end, next}
+use Rattle.goals.specs.declared.rest.Rest.{Rest}
+use Rattle.goals.specs.declared.token.Sign.{Sign}
+use Rattle.goals.specs.declared.token.Kind.{Kind}
 use Rattle.goals.specs.declared.token.Token.{Token}
-use Rattle.goals.specs.Seen.{seen, used}
+use Rattle.goals.specs.Seen.{tokens_in, mark_of, is_sign, used, Shows, TokenAt}
 use Rattle.goals.specs.Vocabulary.{Vocabulary}
 use Rattle.goals.specs.Reading.{Stage, Moved, cannot, may, signed, move, fault, ended, followed, walk, run}
-use Rattle.goals.specs.Promises.{text_of, vocabulary, tokens, from, Passed, Still, Here, SignRead, head_sign, head_place}
+use Rattle.goals.specs.Promises.{left, tokens, from, Passed, Added, Closed, Still, Here, SignRead, head_sign, head_place}
+use Rattle.goals.proofs.Heads.{shows_sign, other_sign, place_seen}
 
 module _ (V : Vocabulary) where
   pub goes : (n : ℕ) (g : Stage) (x : Tok) (p : ℕ) (s : Source) (b : Bool) (c y m : ℕ) (h : Stage) → move V g x p ≡ may b c y m h → b ≡ true → n + m ≤ 128 → run V n g (next x p s) ≡ run V (n + m) h s
@@ -44,50 +49,76 @@ module _ (V : Vocabulary) where
   lone n g c row e d (next bad p s) h = halts n g bad p s (e bad p)
 
 -- the same where the reader stands
-module _ {W : Words} {p : Progress} {x : Tok} {place behind : ℕ} (v : Here W p x place behind) (g : Stage) {b : Bool} {c y m : ℕ} {h : Stage} (e : move (vocabulary W) g x place ≡ may b c y m h) where
-  pub step : {q : Progress} → b ≡ true → Passed p q m behind → from W p g ≡ from W q h
+module _ {p : Progress} {x : Tok} {place : ℕ} {behind : Rest} (v : Here p x place behind) (V : Vocabulary) (g : Stage) {b : Bool} {c y m : ℕ} {h : Stage} (e : move V g x place ≡ may b c y m h) where
+  pub step : {q : Progress} → b ≡ true → Passed p q m behind → from V p g ≡ from V q h
   step {q} t d =
       let f : q.count ≤ 128 = q.few in
       let l : p.count + m ≤ 128 = let i = d.count_is in omega (arith, f, i) in
-      ap (run (vocabulary W) p.count g) v.there ∙ goes (vocabulary W) p.count g x place _ b c y m h e t l
-      ∙ ap₂ (λ i a. run (vocabulary W) i h (lexed (text_of W) a)) (sym d.count_is) (sym d.at_is)
+      ap (run V p.count g) v.there ∙ goes V p.count g x place _ b c y m h e t l
+      ∙ ap₂ (λ i a. run V i h (tokens_in a)) (sym d.count_is) (sym d.rest_is)
 
-  pub fail : b ≡ false → from W p g ≡ fault c y
-  fail t = ap (run (vocabulary W) p.count g) v.there ∙ fails (vocabulary W) p.count g x place _ b c y m h e t
+  pub fail : b ≡ false → from V p g ≡ fault c y
+  fail t = ap (run V p.count g) v.there ∙ fails V p.count g x place _ b c y m h e t
 
-  pub overrun : b ≡ true → 128 < p.count + m → from W p g ≡ fault 7 place
-  overrun t l = ap (run (vocabulary W) p.count g) v.there ∙ overruns (vocabulary W) p.count g x place _ b c y m h e t l
+  pub overrun : b ≡ true → 128 < p.count + m → from V p g ≡ fault 7 place
+  overrun t l = ap (run V p.count g) v.there ∙ overruns V p.count g x place _ b c y m h e t l
+
+-- how many bytes are left
+pub passed-left : {p q : Progress} {n : ℕ} {r : Rest} → Passed p q n r → left q ≡ length r.bytes.now
+passed-left d = ap (λ r. length r.bytes.now) d.rest_is
+
+pub added-left : {p q : Progress} {n : Node} {i : ℕ} → Added p q n i → left q ≡ left p
+added-left a = ap (λ r. length r.bytes.now) a.rest_same
+
+pub closed-left : {p q : Progress} {x : Prefix} {i j : ℕ} → Closed p q x i j → left q ≡ left p
+closed-left a = ap (λ r. length r.bytes.now) a.rest_same
 
 -- a token was taken from the text
-pub here : (W : Words) (p : Progress) (t : Token) (behind : ℕ) (x : Tok) (place : ℕ) → tokens W p ≡ seen t (lexed (text_of W) behind) → p.at + used (tokens W p) ≤ behind → behind ≤ length (text_of W) → seen t (lexed (text_of W) behind) ≡ next x place (lexed (text_of W) behind) → Here W p x place behind
-here W p t behind x place v f i e = record { there = v ∙ e; further = let u = ap used (v ∙ e) in omega (arith, u, f); inside = i }
+pub shown : (p : Progress) {t : Token} → TokenAt p.rest t → (x : Tok) → Shows t.kind x → Here p x t.place t.rest
+shown p {t} v x e =
+    let there = v.there ∙ e t.place (tokens_in t.rest) in
+    record { there = there; further = let u = ap used there in let f = v.further in omega (arith, u, f) }
+
+pub here : (p : Progress) {t : Token} {k : Kind} → TokenAt p.rest t → t.kind ≡ k → (x : Tok) → Shows k x → Here p x t.place t.rest
+here p v i x e = shown p v x (subst (λ k. Shows k x) (sym i) e)
+
+pub sign_at : (p : Progress) {t : Token} → TokenAt p.rest t → (g : Sign) → is_sign t.kind g ≡ true → Here p (mark (mark_of g)) t.place t.rest
+sign_at p {t} v g e = shown p v (mark (mark_of g)) (shows_sign t.kind g e)
+
+-- the token is not this sign
+pub not_at : (p : Progress) {t : Token} → TokenAt p.rest t → (g : Sign) → is_sign t.kind g ≡ false → head_sign (tokens p) ≡ mark_of g → ⊥
+not_at p {t} v g e h = other_sign t.kind g t.place (tokens_in t.rest) e (sym (ap head_sign v.there) ∙ h)
+
+pub place-at : (p : Progress) {t : Token} → TokenAt p.rest t → t.place ≡ head_place (tokens p)
+place-at p {t} v = sym (ap head_place v.there ∙ place_seen t.kind t.place (tokens_in t.rest))
 
 -- a sign that has to stand here
-module _ {W : Words} {p q : Progress} {c : ℕ} (r : SignRead W p q c) where
-  sign_passed : Passed p q 0 q.at
-  sign_passed = record { at_is = refl; count_is = let e = r.still.count_same in omega (arith, e); nodes_same = r.still.nodes_same }
+module _ {p q : Progress} {c : ℕ} (r : SignRead p q c) where
+  sign_passed : Passed p q 0 q.rest
+  sign_passed = record { rest_is = refl; count_is = let e = r.still.count_same in omega (arith, e); nodes_same = r.still.nodes_same }
 
-  sign_here : Here W p (mark c) r.place q.at
-  sign_here = record { there = r.there; further = r.still.further; inside = r.still.inside }
+  sign_here : Here p (mark c) r.place q.rest
+  sign_here = record { there = r.there; further = r.still.further }
 
-  pub sign_step : (g : Stage) {b : Bool} {k y : ℕ} {h : Stage} → move (vocabulary W) g (mark c) r.place ≡ may b k y 0 h → b ≡ true → from W p g ≡ from W q h
-  sign_step g e t = step sign_here g e t sign_passed
+  pub sign_step : (V : Vocabulary) (g : Stage) {b : Bool} {k y : ℕ} {h : Stage} → move V g (mark c) r.place ≡ may b k y 0 h → b ≡ true → from V p g ≡ from V q h
+  sign_step V g e t = step sign_here V g e t sign_passed
 
-  pub sign_fail : (g : Stage) {b : Bool} {k y : ℕ} {h : Stage} → move (vocabulary W) g (mark c) r.place ≡ may b k y 0 h → b ≡ false → from W p g ≡ fault k y
-  sign_fail g e t = fail sign_here g e t
+  pub sign_fail : (V : Vocabulary) (g : Stage) {b : Bool} {k y : ℕ} {h : Stage} → move V g (mark c) r.place ≡ may b k y 0 h → b ≡ false → from V p g ≡ fault k y
+  sign_fail V g e t = fail sign_here V g e t
 
-pub still-then : {W : Words} {p q u : Progress} → Still W p q → Still W q u → Still W p u
+pub still-then : {p q u : Progress} → Still p q → Still q u → Still p u
 still-then a b = record {
   nodes_same = b.nodes_same ∙ a.nodes_same;
   count_same = b.count_same ∙ a.count_same;
   further = let i = a.further in let j = b.further in omega (arith, i, j);
-  inside = b.inside;
 }
 
-pub still-passed : {W : Words} {p q : Progress} {x : Tok} {place behind : ℕ} → Here W p x place behind → Passed p q 0 behind → Still W p q
-still-passed {W} {p} {q} {x} {place} {behind} v d = record {
+pub still-passed : {p q : Progress} {x : Tok} {place : ℕ} {behind : Rest} → Here p x place behind → Passed p q 0 behind → Still p q
+still-passed {p} {q} {x} {place} {behind} v d = record {
   nodes_same = d.nodes_same;
   count_same = let e = d.count_is in omega (arith, e);
-  further = let e = d.at_is in let l = v.further in omega (arith, e, l);
-  inside = let e = d.at_is in let h = v.inside in omega (arith, e, h);
+  further = let e = passed-left d in let l = v.further in omega (arith, e, l);
 }
+
+pub sign-read : {p q : Progress} {c place : ℕ} {behind : Rest} → Here p (mark c) place behind → Passed p q 0 behind → SignRead p q c
+sign-read {p} {q} {c} {place} {behind} v d = record { place = place; there = v.there ∙ ap (λ r. next (mark c) place (tokens_in r)) (sym d.rest_is); still = still-passed v d }

@@ -1,20 +1,19 @@
 -- A whole text.
-use Rattle.std.proofs.Common.{◌≡◌, ℕ, ◌+◌, ◌<◌, ◌≤◌, true, leb, List, [], ◌∷◌, ◌++◌, length, get_or, vec_len, Option, sym, refl, ap, ◌∙◌, subst, ap₂, zero-add, arith, le-leb}
+use Rattle.std.proofs.Common.{◌≡◌, ℕ, ◌+◌, ◌<◌, ◌≤◌, true, eqb, leb, List, [], ◌∷◌, ◌++◌, length, get_or, vec_len, Option, sym, refl, ap, ◌∙◌, subst, ap₂, zero-add, arith, ne_eqb, le-leb}
 use borrow.Author.Tests.{lt-leb}
 use Rattle.std.proofs.lemmas.Bool.{cond-true, cond-false}
 use Rattle.goals.specs.declared.goal.Node.{Node}
 use Rattle.goals.specs.declared.goal.Node.TheVariants as node
-use Rattle.goals.specs.declared.token.Token.{Token}
-use Rattle.goals.specs.declared.token.Token.TheVariants as token
-use Rattle.goals.specs.declared.words.Words.{Words}
+use Rattle.goals.specs.declared.token.Kind.{Kind}
+use Rattle.goals.specs.declared.token.Kind.TheVariants as kind
 use Rattle.goals.specs.declared.progress.Progress.{Progress}
 use Rattle.goals.specs.Tokens.{Source, end, lexed}
 use Rattle.goals.specs.Vocabulary.{Vocabulary}
 use Rattle.goals.specs.Syntax as syntax
-use Rattle.goals.specs.Seen.{seen, placed}
+use Rattle.goals.specs.Seen.{seen, mark_of}
 use Rattle.goals.specs.Tree.{Tree}
 use Rattle.goals.specs.Layout.{laid, below}
-use Rattle.goals.specs.Reading.{top, after, joined_or, read, fault, start, walk, move, run, reads}
+use Rattle.goals.specs.Reading.{top, after, joined_or, read, fault, start, followed, walk, move, run, reads}
 use Rattle.goals.specs.GoalTable.{parts_below}
 use Rattle.goals.proofs.Making.{length-laid}
 use Rattle.goals.proofs.Ordered.{all-at, laid-ordered}
@@ -35,8 +34,8 @@ empty_list [] e = refl
 empty_list (x ∷ l) e = absurd (omega (arith, e))
 
 -- the table of a goal is its tree's nodes alone
-pub from_empty : {W : Words} {p q : Progress} {i : ℕ} {t : Tree} → Made W p q i t → vec_len p.nodes ≡ 0 → (items q ≡ laid t 0) × (i ≡ below t)
-from_empty {W} {p} {q} {i} {t} m e =
+pub from_empty : {p q : Progress} {i : ℕ} {t : Tree} → Made p q i t → vec_len p.nodes ≡ 0 → (items q ≡ laid t 0) × (i ≡ below t)
+from_empty {p} {q} {i} {t} m e =
     let n : items p ≡ [] = empty_list (items p) (let a = p.nodes.ok.0 in omega (arith, a, e)) in
     (m.grows ∙ ap (λ l. l ++ laid t (length l)) n, m.number ∙ ap (λ l. length l + below t) n ∙ zero-add (below t))
 
@@ -51,29 +50,13 @@ pub few-of : (p : Progress) → length (items p) ≤ 128
 few-of p = let a = p.nodes.ok.0 in let b = p.fits in let c = p.few in omega (arith, a, b, c)
 
 -- a token that can't stand behind the whole
-pub no_end : (V : Vocabulary) (n : ℕ) (c : syntax.Clause) (o : Option syntax.Formula) (t : Token) (s : Source) → (head_sign (seen t s) ≡ 38 → ⊥) → (head_sign (seen t s) ≡ 124 → ⊥) → ((p : ℕ) → t ≡ token.End p → ⊥) → run V n (after c o top) (seen t s) ≡ fault 4 (placed t)
+pub no_end : (V : Vocabulary) (n : ℕ) (c : syntax.Clause) (o : Option syntax.Formula) (t : Kind) (p : ℕ) (s : Source) → (head_sign (seen t p s) ≡ 38 → ⊥) → (head_sign (seen t p s) ≡ 124 → ⊥) → (t ≡ kind.End → ⊥) → run V n (after c o top) (seen t p s) ≡ fault 4 p
 unfolding walk move
-no_end V n c o (token.Name b p) s h1 h2 h3 = refl
-no_end V n c o (token.Variable v p) s h1 h2 h3 = refl
-no_end V n c o (token.Number d p) s h1 h2 h3 = refl
-no_end V n c o (token.True p) s h1 h2 h3 = refl
-no_end V n c o (token.Not p) s h1 h2 h3 = refl
-no_end V n c o (token.Next p) s h1 h2 h3 = refl
-no_end V n c o (token.Eventually p) s h1 h2 h3 = refl
-no_end V n c o (token.Always p) s h1 h2 h3 = refl
-no_end V n c o (token.ForAll p) s h1 h2 h3 = refl
-no_end V n c o (token.Exists p) s h1 h2 h3 = refl
-no_end V n c o (token.Open p) s h1 h2 h3 = refl
-no_end V n c o (token.Close p) s h1 h2 h3 = refl
-no_end V n c o (token.OpenEnds p) s h1 h2 h3 = refl
-no_end V n c o (token.CloseEnds p) s h1 h2 h3 = refl
-no_end V n c o (token.Comma p) s h1 h2 h3 = refl
-no_end V n c o (token.Star p) s h1 h2 h3 = refl
-no_end V n c o (token.Colon p) s h1 h2 h3 = refl
-no_end V n c o (token.Equal p) s h1 h2 h3 = refl
-no_end V n c o (token.And p) s h1 h2 h3 = absurd (h1 refl)
-no_end V n c o (token.Or p) s h1 h2 h3 = absurd (h2 refl)
-no_end V n c o (token.Until p) s h1 h2 h3 = refl
-no_end V n c o (token.Implies p) s h1 h2 h3 = refl
-no_end V n c o (token.Bad p) s h1 h2 h3 = refl
-no_end V n c o (token.End p) s h1 h2 h3 = absurd (h3 p refl)
+no_end V n c o (kind.Name b) p s h1 h2 h3 = refl
+no_end V n c o (kind.Variable v) p s h1 h2 h3 = refl
+no_end V n c o (kind.Number d) p s h1 h2 h3 = refl
+no_end V n c o (kind.Sign g) p s h1 h2 h3 =
+    let b = mark_of g in
+    ap (λ x. followed true x n p (λ i h. run V i h s)) (cond-false (eqb b 38) _ _ (ne_eqb b 38 h1) ∙ cond-false (eqb b 124) _ _ (ne_eqb b 124 h2))
+no_end V n c o kind.Bad p s h1 h2 h3 = refl
+no_end V n c o kind.End p s h1 h2 h3 = absurd (h3 refl)

@@ -24,9 +24,9 @@ use Rattle.goals.specs.declared.progress.Joint.TheVariants as joint
 use Rattle.goals.specs.declared.progress.Bound as code
 use Rattle.goals.specs.declared.progress.Opening.{Opening}
 use Rattle.goals.specs.declared.progress.Timed.{Timed}
-use Rattle.goals.specs.declared.token.Token.{Token}
-use Rattle.goals.specs.Seen.{seen, used}
-use Rattle.goals.specs.Tokens.{Tok, mark, word, variable, digits, bad, Source, end, next, lexed, value}
+use Rattle.goals.specs.declared.rest.Rest.{Rest}
+use Rattle.goals.specs.Seen.{tokens_in}
+use Rattle.goals.specs.Tokens.{Tok, mark, word, variable, digits, bad, Source, end, next, value}
 use Rattle.goals.specs.Vocabulary.{Vocabulary, vocabulary_of}
 use Rattle.goals.specs.Syntax as syntax
 use Rattle.goals.specs.Scopes.{in_use, bind, newest, inside}
@@ -36,29 +36,30 @@ use Rattle.goals.specs.Reading.{Around, open_at, right_of, Place, at, under, sco
 use Rattle.goals.specs.GoalFaults.{told}
 use Rattle.goals.specs.Layout.{laid, below, size}
 
-abbrev pub text_of : Words → List ℕ
-text_of W = W.text.now
-
 abbrev pub vocabulary : Words → Vocabulary
 vocabulary W = vocabulary_of W.ids W.predicates.now
 
-abbrev pub tokens : Words → Progress → Source
-tokens W p = lexed (text_of W) p.at
+abbrev pub tokens : Progress → Source
+tokens p = tokens_in p.rest
+
+-- how many bytes are left
+abbrev pub left : Progress → ℕ
+left p = length p.rest.bytes.now
 
 abbrev pub items : Progress → List Node
 items p = vec_items p.nodes
 
 -- what comes of reading on from here at a stage
-abbrev pub from : Words → Progress → Stage → Outcome
-from W p g = run (vocabulary W) p.count g (tokens W p)
+abbrev pub from : Vocabulary → Progress → Stage → Outcome
+from V p g = run V p.count g (tokens p)
 
 -- a token was passed that counts for so many nodes
-pub record Passed (p q : Progress) (nodes place : ℕ) : Type 0 where
-  pub at_is : q.at ≡ place
+pub record Passed (p q : Progress) (nodes : ℕ) (behind : Rest) : Type 0 where
+  pub rest_is : q.rest ≡ behind
   pub count_is : q.count ≡ p.count + nodes
   pub nodes_same : items q ≡ items p
 
-abbrev pub TakeSays : Progress → Progress → ℕ → ℕ → ℕ → Result (Unit {0}) GoalFault → Type 0
+abbrev pub TakeSays : Progress → Progress → ℕ → ℕ → Rest → Result (Unit {0}) GoalFault → Type 0
 TakeSays p q nodes place behind (Ok u) = Passed p q nodes behind
 TakeSays p q nodes place behind (Err x) = (x ≡ Limit place) × (128 < p.count + nodes)
 
@@ -66,14 +67,13 @@ TakeSays p q nodes place behind (Err x) = (x ≡ Limit place) × (128 < p.count 
 pub record Added (p q : Progress) (n : Node) (i : ℕ) : Type 0 where
   pub number : i ≡ length (items p)
   pub grows : items q ≡ items p ++ n ∷ []
-  pub at_same : q.at ≡ p.at
+  pub rest_same : q.rest ≡ p.rest
   pub count_same : q.count ≡ p.count
 
 -- a token stands here, and the text goes on behind it
-pub record Here (W : Words) (p : Progress) (x : Tok) (place behind : ℕ) : Type 0 where
-  pub there : tokens W p ≡ next x place (lexed (text_of W) behind)
-  pub further : p.at < behind
-  pub inside : behind ≤ length (text_of W)
+pub record Here (p : Progress) (x : Tok) (place : ℕ) (behind : Rest) : Type 0 where
+  pub there : tokens p ≡ next x place (tokens_in behind)
+  pub further : length behind.bytes.now < left p
 
 -- the sign that stands first, or 0
 abbrev pub head_sign : Source → ℕ
@@ -89,21 +89,20 @@ head_place (end p) = p
 head_place (next x p s) = p
 
 -- tokens were read, and no node was made or counted
-pub record Still (W : Words) (p q : Progress) : Type 0 where
+pub record Still (p q : Progress) : Type 0 where
   pub nodes_same : items q ≡ items p
   pub count_same : q.count ≡ p.count
-  pub further : p.at < q.at
-  pub inside : q.at ≤ length (text_of W)
+  pub further : left q < left p
 
 -- a sign was there, or another token or the end
-pub record SignRead (W : Words) (p q : Progress) (c : ℕ) : Type 0 where
+pub record SignRead (p q : Progress) (c : ℕ) : Type 0 where
   pub place : ℕ
-  pub there : tokens W p ≡ next (mark c) place (tokens W q)
-  pub still : Still W p q
+  pub there : tokens p ≡ next (mark c) place (tokens q)
+  pub still : Still p q
 
-abbrev pub SignSays : Words → Progress → Progress → ℕ → Result (Unit {0}) GoalFault → Type 0
-SignSays W p q c (Ok u) = SignRead W p q c
-SignSays W p q c (Err x) = (x ≡ Follow (head_place (tokens W p))) × (head_sign (tokens W p) ≢ c)
+abbrev pub SignSays : Progress → Progress → ℕ → Result (Unit {0}) GoalFault → Type 0
+SignSays p q c (Ok u) = SignRead p q c
+SignSays p q c (Err x) = (x ≡ Follow (head_place (tokens p))) × (head_sign (tokens p) ≢ c)
 
 -- a variable by its letter, and an id by its digits
 abbrev pub VariableSays : Letters → ℕ → ℕ → Result Term GoalFault → Type 0
@@ -114,26 +113,26 @@ abbrev pub IdSays : ℕ → List ℕ → ℕ → Result Term GoalFault → Type 
 IdSays n d p (Ok t) = (nat_lt (value d) n ≡ true) × (t ≡ Id (value d))
 IdSays n d p (Err x) = (nat_lt (value d) n ≡ false) × (x ≡ Range p)
 
-pub record OperandRead (W : Words) (s : Scope) (p q : Progress) (t : Term) : Type 0 where
+pub record OperandRead (V : Vocabulary) (s : Scope) (p q : Progress) (t : Term) : Type 0 where
   pub operand : syntax.Operand
   pub value_is : t ≡ term_of s.letters operand
-  pub runs : (a : Asker) → asker_scope a ≡ s → from W p (asks a) ≡ from W q (given a operand)
-  pub still : Still W p q
+  pub runs : (a : Asker) → asker_scope a ≡ s → from V p (asks a) ≡ from V q (given a operand)
+  pub still : Still p q
 
-abbrev pub OperandSays : Words → Scope → Progress → Progress → Result Term GoalFault → Type 0
-OperandSays W s p q (Ok t) = OperandRead W s p q t
-OperandSays W s p q (Err x) = (a : Asker) → asker_scope a ≡ s → from W p (asks a) ≡ told x
+abbrev pub OperandSays : Vocabulary → Scope → Progress → Progress → Result Term GoalFault → Type 0
+OperandSays V s p q (Ok t) = OperandRead V s p q t
+OperandSays V s p q (Err x) = (a : Asker) → asker_scope a ≡ s → from V p (asks a) ≡ told x
 
 -- a comma and a second term
-pub record SecondRead (W : Words) (s : Scope) (p q : Progress) (t : Term) : Type 0 where
+pub record SecondRead (V : Vocabulary) (s : Scope) (p q : Progress) (t : Term) : Type 0 where
   pub operand : syntax.Operand
   pub value_is : t ≡ term_of s.letters operand
-  pub runs : (a : Asker) → asker_scope a ≡ s → from W p (expects 44 (asks a)) ≡ from W q (given a operand)
-  pub still : Still W p q
+  pub runs : (a : Asker) → asker_scope a ≡ s → from V p (expects 44 (asks a)) ≡ from V q (given a operand)
+  pub still : Still p q
 
-abbrev pub SecondSays : Words → Scope → Progress → Progress → Result Term GoalFault → Type 0
-SecondSays W s p q (Ok t) = SecondRead W s p q t
-SecondSays W s p q (Err x) = (a : Asker) → asker_scope a ≡ s → from W p (expects 44 (asks a)) ≡ told x
+abbrev pub SecondSays : Vocabulary → Scope → Progress → Progress → Result Term GoalFault → Type 0
+SecondSays V s p q (Ok t) = SecondRead V s p q t
+SecondSays V s p q (Err x) = (a : Asker) → asker_scope a ≡ s → from V p (expects 44 (asks a)) ≡ told x
 
 -- where a test may begin, and the nodes that its name counts for
 abbrev pub test_stage : Role → Stage
@@ -145,55 +144,53 @@ role_nodes (alone k) = 1
 role_nodes (bound q v k) = 0
 
 -- a name stands here
-abbrev pub NameHere : Words → Progress → Called → Type 0
-NameHere W p c = Here W p (word c.name.now) c.place c.after
+abbrev pub NameHere : Progress → Called → Type 0
+NameHere p c = Here p (word c.name.now) c.token.place c.token.rest
 
-pub record TestRead (W : Words) (s : Scope) (nodes place : ℕ) (p q : Progress) (a : Atom) : Type 0 where
+pub record TestRead (V : Vocabulary) (s : Scope) (nodes place : ℕ) (p q : Progress) (a : Atom) : Type 0 where
   pub test : syntax.Test
-  pub value_is : a ≡ atom_of (vocabulary W) s.letters test
-  pub runs : (r : Role) → role_scope r ≡ s → role_nodes r ≡ nodes → from W p (test_stage r) ≡ cond (role_holds r test) (from W q (tested r test)) (fault 5 place)
+  pub value_is : a ≡ atom_of V s.letters test
+  pub runs : (r : Role) → role_scope r ≡ s → role_nodes r ≡ nodes → from V p (test_stage r) ≡ cond (role_holds r test) (from V q (tested r test)) (fault 5 place)
   pub nodes_same : items q ≡ items p
   pub count_is : q.count ≡ p.count + nodes
-  pub further : p.at < q.at
-  pub inside : q.at ≤ length (text_of W)
+  pub further : left q < left p
 
-abbrev pub TestSays : Words → Scope → ℕ → ℕ → Progress → Progress → Result Atom GoalFault → Type 0
-TestSays W s nodes place p q (Ok a) = TestRead W s nodes place p q a
-TestSays W s nodes place p q (Err x) = (r : Role) → role_scope r ≡ s → role_nodes r ≡ nodes → from W p (test_stage r) ≡ told x
+abbrev pub TestSays : Vocabulary → Scope → ℕ → ℕ → Progress → Progress → Result Atom GoalFault → Type 0
+TestSays V s nodes place p q (Ok a) = TestRead V s nodes place p q a
+TestSays V s nodes place p q (Err x) = (r : Role) → role_scope r ≡ s → role_nodes r ≡ nodes → from V p (test_stage r) ≡ told x
 
 -- the lower end, and the upper
-pub record LowerRead (W : Words) (p q : Progress) (n : ℕ) : Type 0 where
+pub record LowerRead (V : Vocabulary) (p q : Progress) (n : ℕ) : Type 0 where
   pub digits_read : List ℕ
   pub value_is : n ≡ value digits_read
-  pub runs : (m : Opener) → from W p (lower m) ≡ from W q (expects 44 (upper m digits_read))
-  pub still : Still W p q
+  pub runs : (m : Opener) → from V p (lower m) ≡ from V q (expects 44 (upper m digits_read))
+  pub still : Still p q
 
-abbrev pub LowerSays : Words → Progress → Progress → Result ℕ GoalFault → Type 0
-LowerSays W p q (Ok n) = LowerRead W p q n
-LowerSays W p q (Err x) = (m : Opener) → from W p (lower m) ≡ told x
+abbrev pub LowerSays : Vocabulary → Progress → Progress → Result ℕ GoalFault → Type 0
+LowerSays V p q (Ok n) = LowerRead V p q n
+LowerSays V p q (Err x) = (m : Opener) → from V p (lower m) ≡ told x
 
-pub record UpperRead (W : Words) (n : ℕ) (p q : Progress) (u : Option Span) : Type 0 where
+pub record UpperRead (V : Vocabulary) (n : ℕ) (p q : Progress) (u : Option Span) : Type 0 where
   pub interval : List ℕ → syntax.Interval
   pub value_is : (lo : List ℕ) → record { lower = span (value lo); upper = u } ≡ ends_of (interval lo)
-  pub runs : (m : Opener) (lo : List ℕ) → n ≡ value lo → from W p (upper m lo) ≡ from W q (expects 93 (wants (resume m (interval lo))))
-  pub still : Still W p q
+  pub runs : (m : Opener) (lo : List ℕ) → n ≡ value lo → from V p (upper m lo) ≡ from V q (expects 93 (wants (resume m (interval lo))))
+  pub still : Still p q
 
-abbrev pub UpperSays : Words → ℕ → Progress → Progress → Result (Option Span) GoalFault → Type 0
-UpperSays W n p q (Ok u) = UpperRead W n p q u
-UpperSays W n p q (Err x) = (m : Opener) (lo : List ℕ) → n ≡ value lo → from W p (upper m lo) ≡ told x
+abbrev pub UpperSays : Vocabulary → ℕ → Progress → Progress → Result (Option Span) GoalFault → Type 0
+UpperSays V n p q (Ok u) = UpperRead V n p q u
+UpperSays V n p q (Err x) = (m : Opener) (lo : List ℕ) → n ≡ value lo → from V p (upper m lo) ≡ told x
 
-pub record EndsRead (W : Words) (p q : Progress) (e : Ends) : Type 0 where
+pub record EndsRead (V : Vocabulary) (p q : Progress) (e : Ends) : Type 0 where
   pub interval : syntax.Interval
   pub value_is : e ≡ ends_of interval
-  pub runs : (m : Opener) → from W p (opens m) ≡ from W q (wants (resume m interval))
+  pub runs : (m : Opener) → from V p (opens m) ≡ from V q (wants (resume m interval))
   pub nodes_same : items q ≡ items p
   pub count_same : q.count ≡ p.count
-  pub low : p.at ≤ q.at
-  pub inside : q.at ≤ length (text_of W)
+  pub low : left q ≤ left p
 
-abbrev pub EndsSays : Words → Progress → Progress → Result Ends GoalFault → Type 0
-EndsSays W p q (Ok e) = EndsRead W p q e
-EndsSays W p q (Err x) = (m : Opener) → from W p (opens m) ≡ told x
+abbrev pub EndsSays : Vocabulary → Progress → Progress → Result Ends GoalFault → Type 0
+EndsSays V p q (Ok e) = EndsRead V p q e
+EndsSays V p q (Err x) = (m : Opener) → from V p (opens m) ≡ told x
 
 -- whether a term is a variable
 abbrev pub same_variable : Variable → Variable → Bool
@@ -209,60 +206,51 @@ is_bound v (Bound u) = same_variable u v
 abbrev pub has_bound : Variable → Atom → Bool
 has_bound v a = is_bound v a.first || is_bound v a.second
 
-pub record BoundRead (W : Words) (s : Scope) (p q : Progress) (b : code.Bound) : Type 0 where
+pub record BoundRead (V : Vocabulary) (s : Scope) (p q : Progress) (b : code.Bound) : Type 0 where
   pub test : syntax.Test
-  pub value_is : b.atom ≡ atom_of (vocabulary W) (bind s.letters b.letter) test
-  pub runs : (x : syntax.Quantifier) (k : Place) → scope_at k ≡ s → from W p (binds x k) ≡ from W q (wants (under (syntax.quantified x b.letter test) k))
-  pub still : Still W p q
+  pub value_is : b.atom ≡ atom_of V (bind s.letters b.letter) test
+  pub runs : (x : syntax.Quantifier) (k : Place) → scope_at k ≡ s → from V p (binds x k) ≡ from V q (wants (under (syntax.quantified x b.letter test) k))
+  pub still : Still p q
 
-abbrev pub BoundSays : Words → Scope → Progress → Progress → Result code.Bound GoalFault → Type 0
-BoundSays W s p q (Ok b) = BoundRead W s p q b
-BoundSays W s p q (Err x) = (y : syntax.Quantifier) (k : Place) → scope_at k ≡ s → from W p (binds y k) ≡ told x
+abbrev pub BoundSays : Vocabulary → Scope → Progress → Progress → Result code.Bound GoalFault → Type 0
+BoundSays V s p q (Ok b) = BoundRead V s p q b
+BoundSays V s p q (Err x) = (y : syntax.Quantifier) (k : Place) → scope_at k ≡ s → from V p (binds y k) ≡ told x
 
 -- a name is wanted for a bound
-pub record CalledHere (W : Words) (place : ℕ) (c : Called) : Type 0 where
-  pub there : lexed (text_of W) place ≡ next (word c.name.now) c.place (lexed (text_of W) c.after)
-  pub further : place < c.after
-  pub inside : c.after ≤ length (text_of W)
+pub record CalledHere (r : Rest) (c : Called) : Type 0 where
+  pub there : tokens_in r ≡ next (word c.name.now) c.token.place (tokens_in c.token.rest)
+  pub further : length c.token.rest.bytes.now < length r.bytes.now
 
-abbrev pub CalledSays : Words → ℕ → Result Called GoalFault → Type 0
-CalledSays W place (Ok c) = CalledHere W place c
-CalledSays W place (Err x) = (n : ℕ) (y : syntax.Quantifier) (v : ℕ) (k : Place) → run (vocabulary W) n (bounds y v k) (lexed (text_of W) place) ≡ told x
+abbrev pub CalledSays : Vocabulary → Rest → Result Called GoalFault → Type 0
+CalledSays V r (Ok c) = CalledHere r c
+CalledSays V r (Err x) = (n : ℕ) (y : syntax.Quantifier) (v : ℕ) (k : Place) → run V n (bounds y v k) (tokens_in r) ≡ told x
 
 -- F or G with its ends
-pub record TimedRead (W : Words) (m : syntax.Modal) (p q : Progress) (t : Timed) : Type 0 where
+pub record TimedRead (V : Vocabulary) (m : syntax.Modal) (p q : Progress) (t : Timed) : Type 0 where
   pub interval : syntax.Interval
   pub value_is : t.ends ≡ ends_of interval
   pub number : t.truth ≡ length (items p)
   pub grows : items q ≡ items p ++ node.True ∷ []
   pub count_is : q.count ≡ p.count + prefix_nodes (syntax.timed m interval)
-  pub runs : (k : Place) → from W p (wants k) ≡ from W q (wants (under (syntax.timed m interval) k))
-  pub further : p.at < q.at
-  pub inside : q.at ≤ length (text_of W)
+  pub runs : (k : Place) → from V p (wants k) ≡ from V q (wants (under (syntax.timed m interval) k))
+  pub further : left q < left p
 
-abbrev pub TimedSays : Words → syntax.Modal → Progress → Progress → Result Timed GoalFault → Type 0
-TimedSays W m p q (Ok t) = TimedRead W m p q t
-TimedSays W m p q (Err x) = (k : Place) → from W p (wants k) ≡ told x
+abbrev pub TimedSays : Vocabulary → syntax.Modal → Progress → Progress → Result Timed GoalFault → Type 0
+TimedSays V m p q (Ok t) = TimedRead V m p q t
+TimedSays V m p q (Err x) = (k : Place) → from V p (wants k) ≡ told x
 
 -- A or E with its variable and its bound
-pub record QuantifiedRead (W : Words) (s : Scope) (x : syntax.Quantifier) (p q : Progress) (b : code.Bound) : Type 0 where
+pub record QuantifiedRead (V : Vocabulary) (s : Scope) (x : syntax.Quantifier) (p q : Progress) (b : code.Bound) : Type 0 where
   pub test : syntax.Test
-  pub value_is : b.atom ≡ atom_of (vocabulary W) (bind s.letters b.letter) test
+  pub value_is : b.atom ≡ atom_of V (bind s.letters b.letter) test
   pub nodes_same : items q ≡ items p
   pub count_is : q.count ≡ p.count + 1
-  pub runs : (k : Place) → scope_at k ≡ s → from W p (wants k) ≡ from W q (wants (under (syntax.quantified x b.letter test) k))
-  pub further : p.at < q.at
-  pub inside : q.at ≤ length (text_of W)
+  pub runs : (k : Place) → scope_at k ≡ s → from V p (wants k) ≡ from V q (wants (under (syntax.quantified x b.letter test) k))
+  pub further : left q < left p
 
-abbrev pub QuantifiedSays : Words → Scope → syntax.Quantifier → Progress → Progress → Result code.Bound GoalFault → Type 0
-QuantifiedSays W s x p q (Ok b) = QuantifiedRead W s x p q b
-QuantifiedSays W s x p q (Err y) = (k : Place) → scope_at k ≡ s → from W p (wants k) ≡ told y
-
--- a token as the reader has it
-pub record TokenHere (W : Words) (p : Progress) (t : Token) (behind : ℕ) : Type 0 where
-  pub there : tokens W p ≡ seen t (lexed (text_of W) behind)
-  pub further : p.at + used (tokens W p) ≤ behind
-  pub inside : behind ≤ length (text_of W)
+abbrev pub QuantifiedSays : Vocabulary → Scope → syntax.Quantifier → Progress → Progress → Result code.Bound GoalFault → Type 0
+QuantifiedSays V s x p q (Ok b) = QuantifiedRead V s x p q b
+QuantifiedSays V s x p q (Err y) = (k : Place) → scope_at k ≡ s → from V p (wants k) ≡ told y
 
 -- a prefix in code: what it means, the nodes made as it is read, and those behind its item
 module _ (V : Vocabulary) (s : Scope) where
@@ -308,22 +296,21 @@ closing_size (prefix.Exists v a) = 1
 pub record Closed (p q : Progress) (x : Prefix) (i j : ℕ) : Type 0 where
   pub grows : items q ≡ items p ++ closed x i (length (items p))
   pub last : j + 1 ≡ length (items q)
-  pub at_same : q.at ≡ p.at
+  pub rest_same : q.rest ≡ p.rest
   pub count_same : q.count ≡ p.count
 
-pub record PrefixRead (W : Words) (s : Scope) (p q : Progress) (o : Opening) : Type 0 where
+pub record PrefixRead (V : Vocabulary) (s : Scope) (p q : Progress) (o : Opening) : Type 0 where
   pub written : syntax.Prefix
-  pub prefix_is : o.prefix ≡ meant (vocabulary W) s written (length (items p))
+  pub prefix_is : o.prefix ≡ meant V s written (length (items p))
   pub scope_is : o.scope ≡ inside s written
   pub grows : items q ≡ items p ++ opened written
   pub count_is : q.count ≡ p.count + prefix_nodes written
-  pub runs : (k : Place) → scope_at k ≡ s → from W p (wants k) ≡ from W q (wants (under written k))
-  pub further : p.at < q.at
-  pub inside : q.at ≤ length (text_of W)
+  pub runs : (k : Place) → scope_at k ≡ s → from V p (wants k) ≡ from V q (wants (under written k))
+  pub further : left q < left p
 
-abbrev pub PrefixSays : Words → Scope → Progress → Progress → Result Opening GoalFault → Type 0
-PrefixSays W s p q (Ok o) = PrefixRead W s p q o
-PrefixSays W s p q (Err x) = (k : Place) → scope_at k ≡ s → from W p (wants k) ≡ told x
+abbrev pub PrefixSays : Vocabulary → Scope → Progress → Progress → Result Opening GoalFault → Type 0
+PrefixSays V s p q (Ok o) = PrefixRead V s p q o
+PrefixSays V s p q (Err x) = (k : Place) → scope_at k ≡ s → from V p (wants k) ≡ told x
 
 -- a joint in code, behind a first formula with the number i
 abbrev pub joint_meant : syntax.Joint → ℕ → ℕ → Joint
@@ -338,64 +325,62 @@ abbrev pub joint_node : Joint → ℕ → Node
 joint_node (joint.Until e i) j = node.Until e i j
 joint_node (joint.Or i) j = node.Or i j
 
-pub record JointRead (W : Words) (i : ℕ) (p q : Progress) (x : Joint) : Type 0 where
+pub record JointRead (V : Vocabulary) (i : ℕ) (p q : Progress) (x : Joint) : Type 0 where
   pub written : syntax.Joint
   pub joint_is : x ≡ joint_meant written i (length (items p))
   pub grows : items q ≡ items p ++ joint_opened written i
   pub count_is : q.count ≡ p.count + joint_nodes written
-  pub runs : (c : syntax.Clause) (o : Option syntax.Formula) (k : Place) → from W p (after c o (open_at k)) ≡ from W q (wants (at None None (right_of (joined_or o c) written k)))
-  pub further : p.at < q.at
-  pub inside : q.at ≤ length (text_of W)
+  pub runs : (c : syntax.Clause) (o : Option syntax.Formula) (k : Place) → from V p (after c o (open_at k)) ≡ from V q (wants (at None None (right_of (joined_or o c) written k)))
+  pub further : left q < left p
 
-abbrev pub JointSays : Words → ℕ → Progress → Progress → Result Joint GoalFault → Type 0
-JointSays W i p q (Ok x) = JointRead W i p q x
-JointSays W i p q (Err x) = (c : syntax.Clause) (o : Option syntax.Formula) (k : Place) → from W p (after c o (open_at k)) ≡ told x
+abbrev pub JointSays : Vocabulary → ℕ → Progress → Progress → Result Joint GoalFault → Type 0
+JointSays V i p q (Ok x) = JointRead V i p q x
+JointSays V i p q (Err x) = (c : syntax.Clause) (o : Option syntax.Formula) (k : Place) → from V p (after c o (open_at k)) ≡ told x
 
 -- a tree's nodes were added, and as many counted; i is the root's number
-pub record Made (W : Words) (p q : Progress) (i : ℕ) (t : Tree) : Type 0 where
+pub record Made (p q : Progress) (i : ℕ) (t : Tree) : Type 0 where
   pub grows : items q ≡ items p ++ laid t (length (items p))
   pub number : i ≡ length (items p) + below t
   pub count_is : q.count ≡ p.count + size t
-  pub further : p.at < q.at
-  pub inside : q.at ≤ length (text_of W)
+  pub further : left q < left p
 
 -- an item, from a stage that depends on where it stands
-pub record ItemRead (W : Words) (s : Scope) (g : Place → Stage) (p q : Progress) (i : ℕ) : Type 0 where
+pub record ItemRead (V : Vocabulary) (s : Scope) (g : Place → Stage) (p q : Progress) (i : ℕ) : Type 0 where
   pub item : syntax.Item
-  pub made : Made W p q i (item-tree (vocabulary W) s item)
-  pub runs : (k : Place) → scope_at k ≡ s → from W p (g k) ≡ from W q (complete item k)
+  pub made : Made p q i (item-tree V s item)
+  pub runs : (k : Place) → scope_at k ≡ s → from V p (g k) ≡ from V q (complete item k)
 
-abbrev pub ItemSays : Words → Scope → (Place → Stage) → Progress → Progress → Result ℕ GoalFault → Type 0
-ItemSays W s g p q (Ok i) = ItemRead W s g p q i
-ItemSays W s g p q (Err x) = (k : Place) → scope_at k ≡ s → from W p (g k) ≡ told x
+abbrev pub ItemSays : Vocabulary → Scope → (Place → Stage) → Progress → Progress → Result ℕ GoalFault → Type 0
+ItemSays V s g p q (Ok i) = ItemRead V s g p q i
+ItemSays V s g p q (Err x) = (k : Place) → scope_at k ≡ s → from V p (g k) ≡ told x
 
 -- behind an opening bracket
 abbrev pub bracketed : Place → Stage
 bracketed k = wants (at None None (open_at k))
 
 -- the right side of an equation, behind its left side
-abbrev pub EquationSays : Words → Scope → Term → Progress → Progress → Result ℕ GoalFault → Type 0
-EquationSays W s t p q (Ok i) = (x : syntax.Operand) → t ≡ term_of s.letters x → ItemRead W s (λ k. equals x k) p q i
-EquationSays W s t p q (Err y) = (x : syntax.Operand) (k : Place) → scope_at k ≡ s → from W p (equals x k) ≡ told y
+abbrev pub EquationSays : Vocabulary → Scope → Term → Progress → Progress → Result ℕ GoalFault → Type 0
+EquationSays V s t p q (Ok i) = (x : syntax.Operand) → t ≡ term_of s.letters x → ItemRead V s (λ k. equals x k) p q i
+EquationSays V s t p q (Err y) = (x : syntax.Operand) (k : Place) → scope_at k ≡ s → from V p (equals x k) ≡ told y
 
-pub record ClauseRead (W : Words) (s : Scope) (p q : Progress) (i : ℕ) : Type 0 where
+pub record ClauseRead (V : Vocabulary) (s : Scope) (p q : Progress) (i : ℕ) : Type 0 where
   pub clause : syntax.Clause
-  pub made : Made W p q i (clause-tree (vocabulary W) s clause)
-  pub runs : (o : Option syntax.Formula) (f : Around) → scope_around f ≡ s → from W p (wants (at None o f)) ≡ from W q (after clause o f)
-  pub no_and : head_sign (tokens W q) ≡ 38 → ⊥
+  pub made : Made p q i (clause-tree V s clause)
+  pub runs : (o : Option syntax.Formula) (f : Around) → scope_around f ≡ s → from V p (wants (at None o f)) ≡ from V q (after clause o f)
+  pub no_and : head_sign (tokens q) ≡ 38 → ⊥
 
-abbrev pub ClauseSays : Words → Scope → Progress → Progress → Result ℕ GoalFault → Type 0
-ClauseSays W s p q (Ok i) = ClauseRead W s p q i
-ClauseSays W s p q (Err x) = (o : Option syntax.Formula) (f : Around) → scope_around f ≡ s → from W p (wants (at None o f)) ≡ told x
+abbrev pub ClauseSays : Vocabulary → Scope → Progress → Progress → Result ℕ GoalFault → Type 0
+ClauseSays V s p q (Ok i) = ClauseRead V s p q i
+ClauseSays V s p q (Err x) = (o : Option syntax.Formula) (f : Around) → scope_around f ≡ s → from V p (wants (at None o f)) ≡ told x
 
-pub record FormulaRead (W : Words) (s : Scope) (p q : Progress) (i : ℕ) : Type 0 where
+pub record FormulaRead (V : Vocabulary) (s : Scope) (p q : Progress) (i : ℕ) : Type 0 where
   pub last : syntax.Clause
   pub before : Option syntax.Formula
-  pub made : Made W p q i (formula-tree (vocabulary W) s (joined_or before last))
-  pub runs : (f : Around) → scope_around f ≡ s → from W p (wants (at None None f)) ≡ from W q (after last before f)
-  pub no_and : head_sign (tokens W q) ≡ 38 → ⊥
-  pub no_or : head_sign (tokens W q) ≡ 124 → ⊥
+  pub made : Made p q i (formula-tree V s (joined_or before last))
+  pub runs : (f : Around) → scope_around f ≡ s → from V p (wants (at None None f)) ≡ from V q (after last before f)
+  pub no_and : head_sign (tokens q) ≡ 38 → ⊥
+  pub no_or : head_sign (tokens q) ≡ 124 → ⊥
 
-abbrev pub FormulaSays : Words → Scope → Progress → Progress → Result ℕ GoalFault → Type 0
-FormulaSays W s p q (Ok i) = FormulaRead W s p q i
-FormulaSays W s p q (Err x) = (f : Around) → scope_around f ≡ s → from W p (wants (at None None f)) ≡ told x
+abbrev pub FormulaSays : Vocabulary → Scope → Progress → Progress → Result ℕ GoalFault → Type 0
+FormulaSays V s p q (Ok i) = FormulaRead V s p q i
+FormulaSays V s p q (Err x) = (f : Around) → scope_around f ≡ s → from V p (wants (at None None f)) ≡ told x

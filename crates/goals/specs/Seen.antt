@@ -1,117 +1,72 @@
 -- What a token of the reader stands for: a token of the text with its place, or the end.
--- A sign is told by its character, and what is no sign by 0.
-use Rattle.std.specs.Prelude.{ℕ, Bool, true, false}
+-- A sign is told by its character.
+use Rattle.std.specs.Prelude.{◌≡◌, ℕ, ◌+◌, ◌≤◌, Bool, false, ◌==◌, length}
+use Rattle.goals.specs.declared.rest.Rest.{Rest}
+use Rattle.goals.specs.declared.token.Sign.{Sign}
+use Rattle.goals.specs.declared.token.Sign.TheVariants as sign
+use Rattle.goals.specs.declared.token.Kind.{Kind}
+use Rattle.goals.specs.declared.token.Kind.TheVariants as kind
 use Rattle.goals.specs.declared.token.Token.{Token}
-use Rattle.goals.specs.declared.token.Token.TheVariants.{Name, Variable, Number, True, Not, Next, Eventually, Always, ForAll, Exists, Open, Close, OpenEnds, CloseEnds, Comma, Star, Colon, Equal, And, Or, Until, Implies, Bad, End}
-use Rattle.goals.specs.Tokens.{Source, end, next, word, variable, digits, mark, bad}
+use Rattle.goals.specs.Tokens.{Tok, Source, end, next, word, variable, digits, mark, bad, member, signs, lex}
 
--- the tokens that begin with this one
-abbrev pub seen : Token → Source → Source
-seen (Name b p) s = next (word b.now) p s
-seen (Variable v p) s = next (variable v) p s
-seen (Number d p) s = next (digits d.now) p s
-seen (True p) s = next (mark 84) p s
-seen (Not p) s = next (mark 33) p s
-seen (Next p) s = next (mark 88) p s
-seen (Eventually p) s = next (mark 70) p s
-seen (Always p) s = next (mark 71) p s
-seen (ForAll p) s = next (mark 65) p s
-seen (Exists p) s = next (mark 69) p s
-seen (Open p) s = next (mark 40) p s
-seen (Close p) s = next (mark 41) p s
-seen (OpenEnds p) s = next (mark 91) p s
-seen (CloseEnds p) s = next (mark 93) p s
-seen (Comma p) s = next (mark 44) p s
-seen (Star p) s = next (mark 42) p s
-seen (Colon p) s = next (mark 58) p s
-seen (Equal p) s = next (mark 61) p s
-seen (And p) s = next (mark 38) p s
-seen (Or p) s = next (mark 124) p s
-seen (Until p) s = next (mark 85) p s
-seen (Implies p) s = next (mark 62) p s
-seen (Bad p) s = next bad p s
-seen (End p) s = end p
+-- the tokens of what is left of a text
+abbrev pub tokens_in : Rest → Source
+tokens_in r = lex 0 r.place r.bytes.now
 
-abbrev pub placed : Token → ℕ
-placed (Name b p) = p
-placed (Variable v p) = p
-placed (Number d p) = p
-placed (True p) = p
-placed (Not p) = p
-placed (Next p) = p
-placed (Eventually p) = p
-placed (Always p) = p
-placed (ForAll p) = p
-placed (Exists p) = p
-placed (Open p) = p
-placed (Close p) = p
-placed (OpenEnds p) = p
-placed (CloseEnds p) = p
-placed (Comma p) = p
-placed (Star p) = p
-placed (Colon p) = p
-placed (Equal p) = p
-placed (And p) = p
-placed (Or p) = p
-placed (Until p) = p
-placed (Implies p) = p
-placed (Bad p) = p
-placed (End p) = p
+-- a sign's character
+abbrev pub mark_of : Sign → ℕ
+mark_of sign.True = 84
+mark_of sign.Not = 33
+mark_of sign.Next = 88
+mark_of sign.Eventually = 70
+mark_of sign.Always = 71
+mark_of sign.ForAll = 65
+mark_of sign.Exists = 69
+mark_of sign.Open = 40
+mark_of sign.Close = 41
+mark_of sign.OpenEnds = 91
+mark_of sign.CloseEnds = 93
+mark_of sign.Comma = 44
+mark_of sign.Star = 42
+mark_of sign.Colon = 58
+mark_of sign.Equal = 61
+mark_of sign.And = 38
+mark_of sign.Or = 124
+mark_of sign.Until = 85
+mark_of sign.Implies = 62
 
-abbrev pub sign_of : Token → ℕ
-sign_of (Name b p) = 0
-sign_of (Variable v p) = 0
-sign_of (Number d p) = 0
-sign_of (True p) = 84
-sign_of (Not p) = 33
-sign_of (Next p) = 88
-sign_of (Eventually p) = 70
-sign_of (Always p) = 71
-sign_of (ForAll p) = 65
-sign_of (Exists p) = 69
-sign_of (Open p) = 40
-sign_of (Close p) = 41
-sign_of (OpenEnds p) = 91
-sign_of (CloseEnds p) = 93
-sign_of (Comma p) = 44
-sign_of (Star p) = 42
-sign_of (Colon p) = 58
-sign_of (Equal p) = 61
-sign_of (And p) = 38
-sign_of (Or p) = 124
-sign_of (Until p) = 85
-sign_of (Implies p) = 62
-sign_of (Bad p) = 0
-sign_of (End p) = 0
+-- a character that is no sign
+abbrev pub NoSign : ℕ → Type 0
+NoSign c = member c signs ≡ false
+
+-- the tokens that begin with one of this kind
+abbrev pub seen : Kind → ℕ → Source → Source
+seen (kind.Name b) p s = next (word b.now) p s
+seen (kind.Variable v) p s = next (variable v) p s
+seen (kind.Number d) p s = next (digits d.now) p s
+seen (kind.Sign g) p s = next (mark (mark_of g)) p s
+seen kind.Bad p s = next bad p s
+seen kind.End p s = end p
+
+-- a kind stands for a token of the text
+abbrev pub Shows : Kind → Tok → Type 0
+Shows k x = (p : ℕ) (s : Source) → seen k p s ≡ next x p s
+
+-- whether a kind is this sign
+abbrev pub is_sign : Kind → Sign → Bool
+is_sign (kind.Name b) g = false
+is_sign (kind.Variable v) g = false
+is_sign (kind.Number d) g = false
+is_sign (kind.Sign own) g = mark_of own == mark_of g
+is_sign kind.Bad g = false
+is_sign kind.End g = false
 
 -- whether a token was there, or the end
 abbrev pub used : Source → ℕ
 used (end p) = 0
 used (next x p s) = 1
 
--- a name, a term, T or an opening bracket, which begin an item without a prefix
-abbrev pub plain : Token → Bool
-plain (Name b p) = true
-plain (Variable v p) = true
-plain (Number d p) = true
-plain (True p) = true
-plain (Not p) = false
-plain (Next p) = false
-plain (Eventually p) = false
-plain (Always p) = false
-plain (ForAll p) = false
-plain (Exists p) = false
-plain (Open p) = true
-plain (Close p) = false
-plain (OpenEnds p) = false
-plain (CloseEnds p) = false
-plain (Comma p) = false
-plain (Star p) = false
-plain (Colon p) = false
-plain (Equal p) = false
-plain (And p) = false
-plain (Or p) = false
-plain (Until p) = false
-plain (Implies p) = false
-plain (Bad p) = false
-plain (End p) = false
+-- the token that stands first in what is left of a text, and what is left behind it
+pub record TokenAt (r : Rest) (t : Token) : Type 0 where
+  pub there : tokens_in r ≡ seen t.kind t.place (tokens_in t.rest)
+  pub further : length t.rest.bytes.now + used (tokens_in r) ≤ length r.bytes.now

@@ -25,6 +25,7 @@ pub mod read_job;
 mod read_operation;
 mod read_predicate;
 pub mod reader;
+mod rest;
 mod scope;
 mod steps;
 pub mod time;

@@ -5,10 +5,8 @@ ghost use Rattle.goals.specs.Meanings.{capped};
 pub fn number_of(digits: &[u8]) -> u16
     ensures { result ≡ capped 0 digits.now }
 {
-    let mut n: u32 = 0;
-    for d in digits {
-        let digit = d.saturating_sub(b'0');
-        n = (n * 10 + digit as u32).min(65535);
-    }
-    n as u16
+    digits.iter().fold(0, |n: u16, d| {
+        n.saturating_mul(10)
+            .saturating_add(u16::from(d.saturating_sub(b'0')))
+    })
 }

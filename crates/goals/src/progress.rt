@@ -1,11 +1,13 @@
 ghost use Rattle.std.specs.Prelude.{◌≤◌, vec_len, vec_capacity};
 
 use crate::goal::{Atom, Ends, Node, Variable};
+use crate::rest::Rest;
+use crate::scope::Scope;
 
-// How far a text is read: the next byte, the nodes counted, and the nodes made, each after its parts.
+// How far a text is read: what is left of it, the nodes counted, and the nodes made, each after its parts.
 #[derive(Drop)]
-pub struct Progress {
-    pub at: usize,
+pub struct Progress<'a> {
+    pub rest: Rest<'a>,
     pub count: usize,
     pub nodes: Vec<Node>,
     ghost fits: { vec_len nodes ≤ count },
@@ -42,7 +44,7 @@ pub struct Bound {
 #[derive(Clone, Copy)]
 pub struct Opening {
     pub prefix: Prefix,
-    pub scope: crate::scope::Scope,
+    pub scope: Scope,
 }
 
 // The ends of `F` or `G`, with the node of its `T`.

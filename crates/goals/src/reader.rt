@@ -2,17 +2,17 @@ ghost use Rattle.std.specs.Prelude.{◌≡◌, ℕ, ◌+◌, ◌-◌, ◌<◌, �
 ghost use Rattle.goals.specs.Reading.{Place, wants, at, open_at};
 ghost use Rattle.goals.specs.Vocabulary.{vocabulary_of};
 ghost use Rattle.goals.specs.GoalClaims.{GoalSays, Exactly, OnlyReading, RightPlace};
-ghost use Rattle.goals.specs.Promises.{ItemSays, ClauseSays, FormulaSays, bracketed};
+ghost use Rattle.goals.specs.Promises.{vocabulary, ItemSays, ClauseSays, FormulaSays, bracketed};
 
 use crate::goal::{Goal, GoalRoom, Node};
 use crate::goal_fault::GoalFault;
-use crate::parts::{equation, id, joint, prefix, test, variable};
+use crate::parts::{id, variable};
 use crate::predicate::Predicate;
 use crate::progress::Progress;
+use crate::rest::Rest;
 use crate::scope::{Letters, Scope};
-use crate::steps::expect;
-use crate::token::{Token, next_token, place_of};
-use crate::words::{Called, Words};
+use crate::token::{Kind, Sign};
+use crate::words::{Called, Reader, Words};
 
 // No goal text is longer.
 const MOST_BYTES: usize = 2048;
@@ -20,99 +20,108 @@ const MOST_BYTES: usize = 2048;
 // No bracket opens inside so many others.
 const MOST_DEPTH: usize = 16;
 
-// Clauses joined by `|`, from the left.
-#[cycle(bracket_clause_formula_item)]
-fn formula(words: Words<'_>, scope: Scope, s: &mut Progress) -> Result<usize, GoalFault>
-    requires { s.old.at ≤ length words.text.now }
-    ensures { FormulaSays words.entry scope s.old s.new result }
-{
-    let mut left = clause(words, scope, s)?;
-    loop {
-        let (token, after) = next_token(words.text, s.at);
-        let Token::Or(place) = token else {
-            return Ok(left);
-        };
-        s.take(1, place, after)?;
-        let right = clause(words, scope, s)?;
-        left = s.add(Node::Or(left, right));
-    }
-}
-
-// Items joined by `&`, from the left.
-#[cycle(bracket_clause_formula_item)]
-fn clause(words: Words<'_>, scope: Scope, s: &mut Progress) -> Result<usize, GoalFault>
-    requires { s.old.at ≤ length words.text.now }
-    ensures { ClauseSays words.entry scope s.old s.new result }
-{
-    let mut left = item(words, scope, s)?;
-    loop {
-        let (token, after) = next_token(words.text, s.at);
-        let Token::And(place) = token else {
-            return Ok(left);
-        };
-        s.take(1, place, after)?;
-        let right = item(words, scope, s)?;
-        left = s.add(Node::And(left, right));
-    }
-}
-
-#[cycle(bracket_clause_formula_item)]
-fn item(words: Words<'_>, scope: Scope, s: &mut Progress) -> Result<usize, GoalFault>
-    requires { s.old.at ≤ length words.text.now }
-    ensures { ItemSays words.entry scope wants s.old s.new result }
-{
-    let (token, after) = next_token(words.text, s.at);
-    match token {
-        Token::True(place) => {
-            s.take(1, place, after)?;
-            Ok(s.add(Node::True))
-        }
-        Token::Name(name, place) => {
-            let atom = test(words, scope, Called { name, place, after }, 1, s)?;
-            Ok(s.add(Node::Test(atom)))
-        }
-        Token::Variable(letter, place) => {
-            let left = variable(scope.letters, letter, place)?;
-            s.pass(after);
-            equation(words, scope, left, s)
-        }
-        Token::Number(digits, place) => {
-            let left = id(words.ids, digits, place)?;
-            s.pass(after);
-            equation(words, scope, left, s)
-        }
-        Token::Open(place) => {
-            if scope.depth >= MOST_DEPTH {
-                return Err(GoalFault::Limit(place));
+impl Reader<'_> {
+    // Clauses joined by `|`, from the left.
+    #[cycle(bracket_clause_formula_item)]
+    fn formula(self, s: &mut Progress<'_>) -> Result<usize, GoalFault>
+        ensures { FormulaSays (vocabulary self.entry.words) self.entry.scope s.old s.new result }
+    {
+        let mut left = self.clause(s)?;
+        loop {
+            let token = s.rest.next_token();
+            if !token.is(Sign::Or) {
+                return Ok(left);
             }
-            s.pass(after);
-            bracket(words, scope, s)
-        }
-        other => {
-            let opening = prefix(words, scope, other, after, s)?;
-            let part = item(words, opening.scope, s)?;
-            Ok(s.close(opening.prefix, part))
+            s.take(1, token)?;
+            let right = self.clause(s)?;
+            left = s.add(Node::Or(left, right));
         }
     }
-}
 
-// What stands in a bracket, behind its opening.
-#[cycle(bracket_clause_formula_item)]
-fn bracket(words: Words<'_>, scope: Scope, s: &mut Progress) -> Result<usize, GoalFault>
-    requires { (s.old.at ≤ length words.text.now) × (scope.depth < 16) }
-    ensures { ItemSays words.entry scope bracketed s.old s.new result }
-{
-    let inner = scope.deeper();
-    let first = formula(words, inner, s)?;
-    let (token, after) = next_token(words.text, s.at);
-    if let Token::Close(_) = token {
-        s.pass(after);
-        return Ok(first);
+    // Items joined by `&`, from the left.
+    #[cycle(bracket_clause_formula_item)]
+    fn clause(self, s: &mut Progress<'_>) -> Result<usize, GoalFault>
+        ensures { ClauseSays (vocabulary self.entry.words) self.entry.scope s.old s.new result }
+    {
+        let mut left = self.item(s)?;
+        loop {
+            let token = s.rest.next_token();
+            if !token.is(Sign::And) {
+                return Ok(left);
+            }
+            s.take(1, token)?;
+            let right = self.item(s)?;
+            left = s.add(Node::And(left, right));
+        }
     }
-    let joint = joint(words, first, token, after, s)?;
-    let second = formula(words, inner, s)?;
-    expect(words, ')', s)?;
-    Ok(s.add(joint.node(second)))
+
+    #[cycle(bracket_clause_formula_item)]
+    fn item(self, s: &mut Progress<'_>) -> Result<usize, GoalFault>
+        ensures { ItemSays (vocabulary self.entry.words) self.entry.scope wants s.old s.new result }
+    {
+        let token = s.rest.next_token();
+        match token.kind {
+            Kind::Name(name) => {
+                let atom = self.test(Called { name, token }, 1, s)?;
+                Ok(s.add(Node::Test(atom)))
+            }
+            Kind::Variable(letter) => {
+                let left = variable(self.scope.letters, letter, token.place)?;
+                s.pass(token);
+                self.equation(left, s)
+            }
+            Kind::Number(digits) => {
+                let left = id(self.words.ids, digits, token.place)?;
+                s.pass(token);
+                self.equation(left, s)
+            }
+            Kind::Sign(sign) => match sign {
+                Sign::True => {
+                    s.take(1, token)?;
+                    Ok(s.add(Node::True))
+                }
+                Sign::Open => {
+                    if self.scope.depth >= MOST_DEPTH {
+                        return Err(GoalFault::Limit(token.place));
+                    }
+                    s.pass(token);
+                    self.bracket(s)
+                }
+                _ => {
+                    let opening = self.prefix(sign, token, s)?;
+                    let inner = Reader {
+                        scope: opening.scope,
+                        ..self
+                    };
+                    let part = inner.item(s)?;
+                    Ok(s.close(opening.prefix, part))
+                }
+            },
+            _ => Err(GoalFault::Follow(token.place)),
+        }
+    }
+
+    // What stands in a bracket, behind its opening.
+    #[cycle(bracket_clause_formula_item)]
+    fn bracket(self, s: &mut Progress<'_>) -> Result<usize, GoalFault>
+        requires { self.scope.depth < 16 }
+        ensures { ItemSays (vocabulary self.entry.words) self.entry.scope bracketed s.old s.new result }
+    {
+        let inner = Reader {
+            scope: self.scope.deeper(),
+            ..self
+        };
+        let first = inner.formula(s)?;
+        let token = s.rest.next_token();
+        if token.is(Sign::Close) {
+            s.pass(token);
+            return Ok(first);
+        }
+        let joint = s.joint(first, token)?;
+        let second = inner.formula(s)?;
+        s.expect(Sign::Close)?;
+        Ok(s.add(joint.node(second)))
+    }
 }
 
 // Reads a goal text against the number of ids and the predicates of a catalogue.
@@ -130,30 +139,27 @@ pub fn read_goal<'a>(
     if text.len() > MOST_BYTES {
         return Err(GoalFault::TooLong);
     }
-    let words = Words {
-        text,
-        ids,
-        predicates,
-    };
-    let outermost = Scope {
-        letters: Letters::Free,
-        depth: 0,
+    let reader = Reader {
+        words: Words { ids, predicates },
+        scope: Scope {
+            letters: Letters::Free,
+            depth: 0,
+        },
     };
     let GoalRoom { nodes } = room;
     let mut s = Progress {
-        at: 0,
+        rest: Rest {
+            bytes: text,
+            place: 0,
+        },
         count: 0,
         nodes,
     };
-    let root = formula(words, outermost, &mut s)?;
-    let (token, _) = next_token(text, s.at);
-    let Token::End(_) = token else {
-        return Err(GoalFault::Follow(place_of(token)));
+    let root = reader.formula(&mut s)?;
+    let token = s.rest.next_token();
+    let Kind::End = token.kind else {
+        return Err(GoalFault::Follow(token.place));
     };
-    let Progress {
-        at: _,
-        count: _,
-        nodes,
-    } = s;
+    let Progress { nodes, .. } = s;
     Ok(Goal { nodes, root })
 }

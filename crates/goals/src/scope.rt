@@ -24,23 +24,9 @@ impl Letters {
         ensures { result ≡ variable_of self letter }
     {
         match self {
-            Letters::Free => None,
-            Letters::One(a) => {
-                if a == letter {
-                    Some(Variable::Outer)
-                } else {
-                    None
-                }
-            }
-            Letters::Two(a, b) => {
-                if a == letter {
-                    Some(Variable::Outer)
-                } else if b == letter {
-                    Some(Variable::Inner)
-                } else {
-                    None
-                }
-            }
+            Letters::One(a) | Letters::Two(a, _) if a == letter => Some(Variable::Outer),
+            Letters::Two(_, b) if b == letter => Some(Variable::Inner),
+            _ => None,
         }
     }
 
@@ -51,7 +37,7 @@ impl Letters {
         match self {
             Letters::Free => Letters::One(letter),
             Letters::One(a) => Letters::Two(a, letter),
-            Letters::Two(a, b) => Letters::Two(a, b),
+            Letters::Two(_, _) => self,
         }
     }
 
@@ -61,8 +47,7 @@ impl Letters {
     {
         match self {
             Letters::Free => Variable::Outer,
-            Letters::One(_) => Variable::Inner,
-            Letters::Two(_, _) => Variable::Inner,
+            Letters::One(_) | Letters::Two(_, _) => Variable::Inner,
         }
     }
 
@@ -70,11 +55,7 @@ impl Letters {
     pub fn are_full(self) -> bool
         ensures { result ≡ not (has_room self) }
     {
-        match self {
-            Letters::Free => false,
-            Letters::One(_) => false,
-            Letters::Two(_, _) => true,
-        }
+        matches!(self, Letters::Two(_, _))
     }
 }
 
@@ -85,8 +66,8 @@ impl Scope {
         ensures { result ≡ deeper self }
     {
         Scope {
-            letters: self.letters,
             depth: self.depth + 1,
+            ..self
         }
     }
 
@@ -96,7 +77,7 @@ impl Scope {
     {
         Scope {
             letters: self.letters.with(letter),
-            depth: self.depth,
+            ..self
         }
     }
 }

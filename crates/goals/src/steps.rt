@@ -1,34 +1,46 @@
-ghost use Rattle.std.specs.Prelude.{◌≡◌, ℕ, ◌+◌, ◌-◌, ◌<◌, ◌≤◌, length, vec_len};
-ghost use Rattle.goals.specs.Promises.{Passed, TakeSays, Added, Closed, closing_size, joint_node, SignSays, text_of};
+ghost use Rattle.std.specs.Prelude.{◌≡◌, ◌+◌, ◌<◌, ◌≤◌, vec_len};
+ghost use Rattle.goals.specs.Seen.{mark_of};
+ghost use Rattle.goals.specs.Promises.{Passed, TakeSays, Added, Closed, closing_size, joint_node, SignSays};
 
 use crate::goal::Node;
 use crate::goal_fault::GoalFault;
 use crate::progress::{Joint, Prefix, Progress};
-use crate::token::{next_token, place_of, sign_of};
-use crate::words::Words;
+use crate::token::{Sign, Token};
 
 // A goal has at most so many nodes.
 const MOST_NODES: usize = 128;
 
-impl Progress {
+impl<'a> Progress<'a> {
     // Passes a token that counts for so many nodes.
-    pub fn take(&mut self, nodes: usize, place: usize, after: usize) -> Result<(), GoalFault>
+    pub fn take(&mut self, nodes: usize, token: Token<'a>) -> Result<(), GoalFault>
         requires { nodes ≤ 4 }
-        ensures { TakeSays self.old self.new nodes place after result }
+        ensures { TakeSays self.old self.new nodes token.entry.place token.entry.rest result }
     {
         if self.count + nodes > MOST_NODES {
-            return Err(GoalFault::Limit(place));
+            return Err(GoalFault::Limit(token.place));
         }
         self.count += nodes;
-        self.at = after;
+        self.rest = token.rest;
         Ok(())
     }
 
     // Passes a token that counts for none.
-    pub fn pass(&mut self, after: usize)
-        ensures { Passed self.old self.new 0 after }
+    pub fn pass(&mut self, token: Token<'a>)
+        ensures { Passed self.old self.new 0 token.entry.rest }
     {
-        self.at = after;
+        self.rest = token.rest;
+    }
+
+    // Passes a sign that has to stand here.
+    pub fn expect(&mut self, sign: Sign) -> Result<(), GoalFault>
+        ensures { SignSays self.old self.new (mark_of sign) result }
+    {
+        let token = self.rest.next_token();
+        if !token.is(sign) {
+            return Err(GoalFault::Follow(token.place));
+        }
+        self.pass(token);
+        Ok(())
     }
 
     // Adds a node that was counted.
@@ -71,17 +83,4 @@ impl Joint {
             Joint::Or(first) => Node::Or(first, second),
         }
     }
-}
-
-// Passes a sign that has to stand here.
-pub fn expect(words: Words<'_>, sign: char, s: &mut Progress) -> Result<(), GoalFault>
-    requires { (s.old.at ≤ length words.text.now) × (0 < sign) }
-    ensures { SignSays words.entry s.old s.new sign result }
-{
-    let (token, after) = next_token(words.text, s.at);
-    if sign_of(token) != sign {
-        return Err(GoalFault::Follow(place_of(token)));
-    }
-    s.pass(after);
-    Ok(())
 }

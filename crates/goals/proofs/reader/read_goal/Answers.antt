@@ -1,8 +1,7 @@
-use Rattle.std.proofs.Common.{◌≡◌, sym, refl, ap, ◌∙◌}
-use Rattle.goals.specs.Tokens.{lexed}
-use Rattle.goals.specs.Seen.{seen}
+use Rattle.std.proofs.Common.{◌≡◌, refl, ap, ◌∙◌}
+use Rattle.goals.specs.Seen.{seen, tokens_in}
 use Rattle.goals.specs.Scopes.{outermost}
-use Rattle.goals.specs.Reading.{top, after, run, fault, read, reads, joined_or}
+use Rattle.goals.specs.Reading.{top, after, run, read, reads, joined_or}
 use Rattle.goals.specs.GoalClaims.{GoalSays, tree_of}
 use Rattle.goals.specs.Vocabulary.{vocabulary_of}
 use Rattle.goals.specs.Promises.{head_sign, items}
@@ -40,13 +39,12 @@ returns-in_default c =
     let V = vocabulary_of c.args.ids c.args.predicates.now in
     let f = c.in_ok-root.ensures in
     let q = c.formula.new.s in
-    let n = c.next_token in
-    let v = n.ensures.value in
+    let n = c.next_token-token in
+    let v = n.ensures.there in
     record {
       value =
           reads_short V c.args.text.now c.if-text-gt-MOST_BYTES.false ∙ f.runs top refl ∙ ap (run V q.count (after f.last f.before top)) v
-          ∙ no_end V q.count f.last f.before n.result.0 (lexed c.args.text.now n.result.1) (λ e. f.no_and (ap head_sign v ∙ e)) (λ e. f.no_or (ap head_sign v ∙ e)) c.in_default.not-End
-          ∙ ap (fault 4) (sym c.place_of.ensures);
+          ∙ no_end V q.count f.last f.before n.result.kind n.result.place (tokens_in n.result.rest) (λ e. f.no_and (ap head_sign v ∙ e)) (λ e. f.no_or (ap head_sign v ∙ e)) c.in_default.not-End;
       exactly = exactly;
       one = only-reading;
       placing = right_place;
@@ -58,9 +56,9 @@ outcome c =
     let V = vocabulary_of c.args.ids c.args.predicates.now in
     let f = c.in_ok-root.ensures in
     let q = c.formula.new.s in
-    let n = c.next_token in
-    let v = n.ensures.value ∙ ap (λ x. seen x (lexed c.args.text.now n.result.1)) c.in-End.is in
-    reads_short V c.args.text.now c.if-text-gt-MOST_BYTES.false ∙ f.runs top refl ∙ ap (run V q.count (after f.last f.before top)) v ∙ ends-here V q.count f.last f.before c.in-End.field-0
+    let n = c.next_token-token in
+    let v = n.ensures.there ∙ ap (λ x. seen x n.result.place (tokens_in n.result.rest)) c.in-End.is in
+    reads_short V c.args.text.now c.if-text-gt-MOST_BYTES.false ∙ f.runs top refl ∙ ap (run V q.count (after f.last f.before top)) v ∙ ends-here V q.count f.last f.before n.result.place
 
 pub invariant_of-result : goal.invariant_of-result
 invariant_of-result c =
@@ -81,14 +79,14 @@ returns c =
     let V = vocabulary_of c.args.ids c.args.predicates.now in
     let f = c.in_ok-root.ensures in
     let q = c.formula.new.s in
-    let n = c.next_token in
-    let v = n.ensures.value ∙ ap (λ x. seen x (lexed c.args.text.now n.result.1)) c.in-End.is in
+    let n = c.next_token-token in
+    let v = n.ensures.there ∙ ap (λ x. seen x n.result.place (tokens_in n.result.rest)) c.in-End.is in
     let m = from_empty f.made c.args.room.empty in
     let w = whole (items q) (tree_of V (joined_or f.before f.last)) c.in_ok-root.root m.0 m.1 in
     record {
       value = record {
         formula = joined_or f.before f.last;
-        outcome = reads_short V c.args.text.now c.if-text-gt-MOST_BYTES.false ∙ f.runs top refl ∙ ap (run V q.count (after f.last f.before top)) v ∙ ends-here V q.count f.last f.before c.in-End.field-0;
+        outcome = reads_short V c.args.text.now c.if-text-gt-MOST_BYTES.false ∙ f.runs top refl ∙ ap (run V q.count (after f.last f.before top)) v ∙ ends-here V q.count f.last f.before n.result.place;
         unfolds = w.0;
         one_place = w.1;
       };

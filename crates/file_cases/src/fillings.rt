@@ -415,14 +415,8 @@ fn print_case<R: Register>(
 }
 
 // How many of the facts are held.
-fn count_held<R: Register>(register: &R, facts: &[Fact]) -> u32 {
-    let mut count: u32 = 0;
-    for fact in facts {
-        if register.holds(*fact) {
-            count = count.wrapping_add(1);
-        }
-    }
-    count
+fn count_held<R: Register>(register: &R, facts: &[Fact]) -> usize {
+    facts.iter().filter(|fact| register.holds(**fact)).count()
 }
 
 fn print_cases(rt: &HostRuntime, cases: &[FillingCase]) -> io::Result<()> {

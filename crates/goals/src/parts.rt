@@ -1,4 +1,4 @@
-ghost use Rattle.std.specs.Prelude.{◌≡◌, ℕ, ◌+◌, ◌-◌, ◌<◌, ◌≤◌, ◌≢◌, true, false, length, vec_len};
+ghost use Rattle.std.specs.Prelude.{◌≡◌, ◌≤◌, ◌≢◌, true};
 ghost use Rattle.goals.specs.declared.token.Sign.TheVariants.{True, Open};
 ghost use Rattle.goals.specs.Scopes.{has_room};
 ghost use Rattle.goals.specs.Syntax.{Modal, Quantifier, timed, unwritten};
@@ -15,34 +15,12 @@ use crate::number::number_of;
 use crate::predicate::find;
 use crate::progress::{Bound, Joint, Opening, Prefix, Progress, Timed};
 use crate::rest::Rest;
-use crate::scope::Letters;
 use crate::time::Span;
 use crate::token::{Kind, Sign, Token};
 use crate::words::{Called, Reader};
 
 // No interval end is greater.
 const MOST_HOURS: u16 = 10000;
-
-// The term of a variable's letter.
-pub fn variable(letters: Letters, letter: u8, place: usize) -> Result<Term, GoalFault>
-    ensures { VariableSays letters letter place result }
-{
-    letters
-        .find(letter)
-        .map(Term::Bound)
-        .ok_or(GoalFault::Unknown(place))
-}
-
-// The term of an id's digits.
-pub fn id(ids: u16, digits: &[u8], place: usize) -> Result<Term, GoalFault>
-    ensures { IdSays ids digits.now place result }
-{
-    let number = number_of(digits);
-    if number >= ids {
-        return Err(GoalFault::Range(place));
-    }
-    Ok(Term::Id(number))
-}
 
 fn stands_for(term: Term, variable: Variable) -> bool
     ensures { result ≡ is_bound variable term }
@@ -155,14 +133,36 @@ impl<'a> Progress<'a> {
 }
 
 impl Reader<'_> {
+    // The term of a variable's letter.
+    pub fn variable(&self, letter: u8, place: usize) -> Result<Term, GoalFault>
+        ensures { VariableSays self.now.scope.letters letter place result }
+    {
+        self.scope
+            .letters
+            .find(letter)
+            .map(Term::Bound)
+            .ok_or(GoalFault::Unknown(place))
+    }
+
+    // The term of an id's digits.
+    pub fn id(&self, digits: &[u8], place: usize) -> Result<Term, GoalFault>
+        ensures { IdSays self.now.words.ids digits.now place result }
+    {
+        let number = number_of(digits);
+        if number >= self.words.ids {
+            return Err(GoalFault::Range(place));
+        }
+        Ok(Term::Id(number))
+    }
+
     // A term, where one is wanted.
     fn operand(&self, s: &mut Progress<'_>) -> Result<Term, GoalFault>
         ensures { OperandSays (vocabulary self.now.words) self.now.scope s.old s.new result }
     {
         let token = s.rest.next_token();
         let term = match token.kind {
-            Kind::Variable(letter) => variable(self.scope.letters, letter, token.place)?,
-            Kind::Number(digits) => id(self.words.ids, digits, token.place)?,
+            Kind::Variable(letter) => self.variable(letter, token.place)?,
+            Kind::Number(digits) => self.id(digits, token.place)?,
             _ => return Err(GoalFault::Follow(token.place)),
         };
         s.pass(token);

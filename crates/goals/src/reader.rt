@@ -1,12 +1,11 @@
-ghost use Rattle.std.specs.Prelude.{◌≡◌, ℕ, ◌+◌, ◌-◌, ◌<◌, ◌≤◌, length};
-ghost use Rattle.goals.specs.Reading.{Place, wants, at, open_at};
+ghost use Rattle.std.specs.Prelude.{◌<◌};
+ghost use Rattle.goals.specs.Reading.{wants};
 ghost use Rattle.goals.specs.Vocabulary.{vocabulary_of};
 ghost use Rattle.goals.specs.GoalClaims.{GoalSays, Exactly, OnlyReading, RightPlace};
 ghost use Rattle.goals.specs.Promises.{vocabulary, ItemSays, ClauseSays, FormulaSays, bracketed};
 
 use crate::goal::{Goal, GoalRoom, Node};
 use crate::goal_fault::GoalFault;
-use crate::parts::{id, variable};
 use crate::predicate::Predicate;
 use crate::progress::Progress;
 use crate::rest::Rest;
@@ -66,12 +65,12 @@ impl Reader<'_> {
                 Ok(s.add(Node::Test(atom)))
             }
             Kind::Variable(letter) => {
-                let left = variable(self.scope.letters, letter, token.place)?;
+                let left = self.variable(letter, token.place)?;
                 s.pass(token);
                 self.equation(left, s)
             }
             Kind::Number(digits) => {
-                let left = id(self.words.ids, digits, token.place)?;
+                let left = self.id(digits, token.place)?;
                 s.pass(token);
                 self.equation(left, s)
             }

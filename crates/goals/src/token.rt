@@ -1,5 +1,5 @@
-ghost use Rattle.std.specs.Prelude.{◌≡◌, ℕ, suc, ◌+◌, ◌<◌, ◌≤◌, Bool, true, false, List, [], ◌∷◌, length, take, drop, MatchOption};
-ghost use Rattle.goals.specs.Tokens.{is_blank, more, token_of, run_of, sign_token, number_token, name_token, variable_token};
+ghost use Rattle.std.specs.Prelude.{◌≡◌, ℕ, ◌+◌, ◌≤◌, Bool, List, ◌∷◌, length, drop, MatchOption};
+ghost use Rattle.goals.specs.Tokens.{run_of, sign_token, number_token, name_token, variable_token};
 ghost use Rattle.goals.specs.Seen.{mark_of, NoSign, Shows, Leads, is_sign, TokenAt};
 
 use crate::rest::Rest;

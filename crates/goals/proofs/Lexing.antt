@@ -1,7 +1,10 @@
 -- One token of a text at a time.
-use Rattle.std.proofs.Common.{◌≡◌, ℕ, zero, suc, ◌+◌, ◌≤◌, Bool, true, false, cond, eqb, List, [], ◌∷◌, length, take, drop, sym, refl, ap, ◌∙◌, subst, ap₂, add-zero, arith}
-use Rattle.std.proofs.lemmas.Bool.{cond-true, cond-false}
-use Rattle.goals.specs.Tokens.{end, next, is_letter, is_digit, is_blank, run_of, more, token_of, lex}
+use Rattle.std.proofs.Common.{◌≡◌, ℕ, zero, suc, ◌+◌, ◌<◌, ◌≤◌, Bool, true, false, cond, eqb, leb, List, [], ◌∷◌, length, take, drop, sym, refl, ap, ◌∙◌, subst, ap₂, add-zero, arith, length-drop, eq-eqb, ne_eqb, le-leb}
+use Rattle.std.proofs.lemmas.Bool.{cond-true, cond-false, and_from, and_left, and_right}
+use borrow.Author.Tests.{lt-leb}
+use Rattle.goals.specs.declared.token.Kind.{Kind}
+use Rattle.goals.specs.Seen.{seen, used, Shows, Leads}
+use Rattle.goals.specs.Tokens.{next, is_letter, is_digit, is_blank, run_of, more, name_token, number_token, variable_token, sign_token, token_of, lex}
 
 run-within : (t : ℕ → Bool) (bs : List ℕ) → run_of t bs ≤ length bs
 run-within t [] = omega arith
@@ -59,16 +62,62 @@ token_step p b bs n e m =
 pub behind_blanks : (p : ℕ) (w : List ℕ) (m q : ℕ) (v : List ℕ) → m ≡ run_of is_blank w → q ≡ p + m → v ≡ drop m w → lex 0 p w ≡ lex 0 q v
 behind_blanks p w m q v e f g = lex_blanks p w ∙ ap (λ k. lex 0 (p + k) (drop k w)) (sym e) ∙ ap₂ (lex 0) (sym f) (sym g)
 
-pub at_the_end : (q : ℕ) (v : List ℕ) → length v ≡ 0 → lex 0 q v ≡ end q
+-- the token there
+pub leads : (q : ℕ) (v : List ℕ) (k : Kind) (n r : ℕ) (u : List ℕ) → ((c : ℕ) (cs : List ℕ) → v ≡ c ∷ cs → is_blank c ≡ false) → Leads v k n → r ≡ q + n → u ≡ drop n v → (lex 0 q v ≡ seen k q (lex 0 r u)) × (length u + used (lex 0 q v) ≤ length v)
 unfolding lex
-at_the_end q [] e = refl
-at_the_end q (b ∷ bs) e = absurd (omega (arith, e))
+leads q [] k n r u clear h e d = (ap (λ x. seen x q (lex 0 r u)) (sym h.0), let f = ap length d ∙ length-drop n [] in omega (arith, f))
+leads q (b ∷ bs) k n r u clear h e d =
+    let m = more b bs in
+    let far : suc q + m ≡ r = let i = h.0 in omega (arith, i, e) in
+    let rest : drop m bs ≡ u = sym (d ∙ ap (λ i. drop i (b ∷ bs)) h.0) in
+    let there = token_step q b bs m (clear b bs refl) refl ∙ ap (next (token_of b (take m bs)) q) (ap₂ (lex 0) far rest) in
+    (there ∙ sym (h.1 q (lex 0 r u)), let i = ap used there in let f = ap length d ∙ length-drop n (b ∷ bs) in let g = h.0 in omega (arith, i, f, g))
 
--- and the token there
-pub token_there : (p : ℕ) (w : List ℕ) (m q : ℕ) (v : List ℕ) (b : ℕ) (bs : List ℕ) (n l r : ℕ) (u : List ℕ) → m ≡ run_of is_blank w → q ≡ p + m → v ≡ drop m w → v ≡ b ∷ bs → n ≡ more b bs → l ≡ suc n → r ≡ q + l → u ≡ drop l v
-    → (lex 0 p w ≡ next (token_of b (take n bs)) q (lex 0 r u)) × (take l v ≡ b ∷ take n bs)
-token_there p w m q v b bs n l r u e f g h k i d o =
-    let begins : drop (run_of is_blank w) w ≡ b ∷ bs = ap (λ x. drop x w) (sym e) ∙ sym g ∙ h in
-    let far : suc q + n ≡ r = omega (arith, i, d) in
-    let rest : drop n bs ≡ u = sym (o ∙ ap₂ (λ x y. drop x y) i h) in
-    (behind_blanks p w m q v e f g ∙ ap (lex 0 q) h ∙ token_step q b bs n (run_stops is_blank w b bs begins) k ∙ ap (next (token_of b (take n bs)) q) (ap₂ (lex 0) far rest), ap₂ (λ x y. take x y) i h)
+pub leads-within : (v : List ℕ) (k : Kind) (n : ℕ) → Leads v k n → n ≤ length v
+leads-within [] k n h = let e = h.1 in omega (arith, e)
+leads-within (b ∷ bs) k n h = let e = h.0 in let w = more_within b bs in omega (arith, e, w)
+
+-- the four kinds of tokens
+letter_is : (b : ℕ) → 97 ≤ b → b ≤ 122 → is_letter b ≡ true
+letter_is b h g = and_from (leb 97 b) (leb b 122) (le-leb 97 b h) (le-leb b 122 g)
+
+digit_is : (b : ℕ) → 48 ≤ b → b ≤ 57 → is_digit b ≡ true
+digit_is b h g = and_from (leb 48 b) (leb b 57) (le-leb 48 b h) (le-leb b 57 g)
+
+small_is : (b : ℕ) → b < 97 → is_letter b ≡ false
+small_is b h = and_left (leb 97 b) (leb b 122) (lt-leb 97 b h)
+
+module _ (b : ℕ) (bs w : List ℕ) (k : Kind) (begins : w ≡ b ∷ bs) where
+  pub leads_name : (n : ℕ) → 97 ≤ b → b ≤ 122 → n ≡ run_of is_letter w → Shows k (name_token (take n w)) → Leads w k n
+  leads_name n h g e s =
+      let l = letter_is b h g in
+      let m : more b bs ≡ run_of is_letter bs = cond-true (is_letter b) _ _ l in
+      let size : n ≡ suc (more b bs) = e ∙ ap (run_of is_letter) begins ∙ cond-true (is_letter b) _ _ l ∙ ap suc (sym m) in
+      let token : name_token (take n w) ≡ token_of b (take (more b bs) bs) = ap₂ (λ x y. name_token (take x y)) size begins ∙ sym (cond-true (is_letter b) _ _ l) in
+      subst (λ x. Leads x k n) (sym begins) (size, λ p z. s p z ∙ ap (λ x. next x p z) token)
+
+  pub leads_number : (n : ℕ) → 48 ≤ b → b ≤ 57 → n ≡ run_of is_digit w → ((c : ℕ) (cs : List ℕ) → take n w ≡ c ∷ cs → Shows k (number_token c cs)) → Leads w k n
+  leads_number n h g e s =
+      let l = small_is b (omega (arith, g)) in
+      let d = digit_is b h g in
+      let m : more b bs ≡ run_of is_digit bs = cond-false (is_letter b) _ _ l ∙ cond-true (is_digit b) _ _ d in
+      let size : n ≡ suc (more b bs) = e ∙ ap (run_of is_digit) begins ∙ cond-true (is_digit b) _ _ d ∙ ap suc (sym m) in
+      let token : number_token b (take (more b bs) bs) ≡ token_of b (take (more b bs) bs) = sym (cond-false (is_letter b) _ _ l ∙ cond-true (is_digit b) _ _ d) in
+      subst (λ x. Leads x k n) (sym begins) (size, λ p z. s b (take (more b bs) bs) (ap₂ (λ x y. take x y) size begins) p z ∙ ap (λ x. next x p z) token)
+
+  pub leads_variable : (n r : ℕ) → b ≡ 63 → n ≡ 1 + r → r ≡ run_of is_letter bs → ((c : ℕ) (cs : List ℕ) → take n w ≡ c ∷ cs → Shows k (variable_token cs)) → Leads w k n
+  leads_variable n r v f e s =
+      let l = small_is b (omega (arith, v)) in
+      let d : is_digit b ≡ false = and_right (leb 48 b) (leb b 57) (lt-leb b 57 (omega (arith, v))) in
+      let q = eq-eqb b 63 v in
+      let m : more b bs ≡ run_of is_letter bs = cond-false (is_letter b) _ _ l ∙ cond-false (is_digit b) _ _ d ∙ cond-true (eqb b 63) _ _ q in
+      let size : n ≡ suc (more b bs) = omega (arith, f, e, m) in
+      let token : variable_token (take (more b bs) bs) ≡ token_of b (take (more b bs) bs) = sym (cond-false (is_letter b) _ _ l ∙ cond-false (is_digit b) _ _ d ∙ cond-true (eqb b 63) _ _ q) in
+      subst (λ x. Leads x k n) (sym begins) (size, λ p z. s b (take (more b bs) bs) (ap₂ (λ x y. take x y) size begins) p z ∙ ap (λ x. next x p z) token)
+
+  pub leads_sign : is_letter b ≡ false → is_digit b ≡ false → (b ≡ 63 → ⊥) → Shows k (sign_token b) → Leads w k 1
+  leads_sign l d v s =
+      let q = ne_eqb b 63 v in
+      let m : more b bs ≡ 0 = cond-false (is_letter b) _ _ l ∙ cond-false (is_digit b) _ _ d ∙ cond-false (eqb b 63) _ _ q in
+      let token : sign_token b ≡ token_of b (take (more b bs) bs) = sym (cond-false (is_letter b) _ _ l ∙ cond-false (is_digit b) _ _ d ∙ cond-false (eqb b 63) _ _ q) in
+      subst (λ x. Leads x k 1) (sym begins) (ap suc (sym m), λ p z. s p z ∙ ap (λ x. next x p z) token)

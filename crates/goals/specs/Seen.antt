@@ -1,13 +1,13 @@
 -- What a token of the reader stands for: a token of the text with its place, or the end.
 -- A sign is told by its character.
-use Rattle.std.specs.Prelude.{◌≡◌, ℕ, ◌+◌, ◌≤◌, Bool, false, ◌==◌, length}
+use Rattle.std.specs.Prelude.{◌≡◌, ℕ, suc, ◌+◌, ◌≤◌, Bool, false, ◌==◌, List, [], ◌∷◌, length, take}
 use Rattle.goals.specs.declared.rest.Rest.{Rest}
 use Rattle.goals.specs.declared.token.Sign.{Sign}
 use Rattle.goals.specs.declared.token.Sign.TheVariants as sign
 use Rattle.goals.specs.declared.token.Kind.{Kind}
 use Rattle.goals.specs.declared.token.Kind.TheVariants as kind
 use Rattle.goals.specs.declared.token.Token.{Token}
-use Rattle.goals.specs.Tokens.{Tok, Source, end, next, word, variable, digits, mark, bad, member, signs, lex}
+use Rattle.goals.specs.Tokens.{Tok, Source, end, next, word, variable, digits, mark, bad, member, signs, more, token_of, lex}
 
 -- the tokens of what is left of a text
 abbrev pub tokens_in : Rest → Source
@@ -51,6 +51,11 @@ seen kind.End p s = end p
 -- a kind stands for a token of the text
 abbrev pub Shows : Kind → Tok → Type 0
 Shows k x = (p : ℕ) (s : Source) → seen k p s ≡ next x p s
+
+-- a token of this kind stands first, where no blank does, and so many bytes belong to it
+abbrev pub Leads : List ℕ → Kind → ℕ → Type 0
+Leads [] k n = (k ≡ kind.End) × (n ≡ 0)
+Leads (b ∷ bs) k n = (n ≡ suc (more b bs)) × Shows k (token_of b (take (more b bs) bs))
 
 -- whether a kind is this sign
 abbrev pub is_sign : Kind → Sign → Bool

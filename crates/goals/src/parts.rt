@@ -1,4 +1,4 @@
-ghost use Rattle.std.specs.Prelude.{◌≡◌, ℕ, ◌+◌, ◌-◌, ◌<◌, ◌≤◌, ◌≢◌, true, false, length, vec_len};
+ghost use Rattle.std.specs.Prelude.{◌≡◌, ◌≤◌, ◌≢◌, true};
 ghost use Rattle.goals.specs.declared.token.Sign.TheVariants.{True, Open};
 ghost use Rattle.goals.specs.Scopes.{has_room};
 ghost use Rattle.goals.specs.Syntax.{Modal, Quantifier, timed, unwritten};
@@ -15,34 +15,12 @@ use crate::number::number_of;
 use crate::predicate::find;
 use crate::progress::{Bound, Joint, Opening, Prefix, Progress, Timed};
 use crate::rest::Rest;
-use crate::scope::Letters;
 use crate::time::Span;
 use crate::token::{Kind, Sign, Token};
 use crate::words::{Called, Reader};
 
 // No interval end is greater.
 const MOST_HOURS: u16 = 10000;
-
-// The term of a variable's letter.
-pub fn variable(letters: Letters, letter: u8, place: usize) -> Result<Term, GoalFault>
-    ensures { VariableSays letters letter place result }
-{
-    letters
-        .find(letter)
-        .map(Term::Bound)
-        .ok_or(GoalFault::Unknown(place))
-}
-
-// The term of an id's digits.
-pub fn id(ids: u16, digits: &[u8], place: usize) -> Result<Term, GoalFault>
-    ensures { IdSays ids digits.now place result }
-{
-    let number = number_of(digits);
-    if number >= ids {
-        return Err(GoalFault::Range(place));
-    }
-    Ok(Term::Id(number))
-}
 
 fn stands_for(term: Term, variable: Variable) -> bool
     ensures { result ≡ is_bound variable term }
@@ -155,14 +133,36 @@ impl<'a> Progress<'a> {
 }
 
 impl Reader<'_> {
+    // The term of a variable's letter.
+    pub fn variable(&self, letter: u8, place: usize) -> Result<Term, GoalFault>
+        ensures { VariableSays self.now.scope.letters letter place result }
+    {
+        self.scope
+            .letters
+            .find(letter)
+            .map(Term::Bound)
+            .ok_or(GoalFault::Unknown(place))
+    }
+
+    // The term of an id's digits.
+    pub fn id(&self, digits: &[u8], place: usize) -> Result<Term, GoalFault>
+        ensures { IdSays self.now.words.ids digits.now place result }
+    {
+        let number = number_of(digits);
+        if number >= self.words.ids {
+            return Err(GoalFault::Range(place));
+        }
+        Ok(Term::Id(number))
+    }
+
     // A term, where one is wanted.
-    fn operand(self, s: &mut Progress<'_>) -> Result<Term, GoalFault>
-        ensures { OperandSays (vocabulary self.entry.words) self.entry.scope s.old s.new result }
+    fn operand(&self, s: &mut Progress<'_>) -> Result<Term, GoalFault>
+        ensures { OperandSays (vocabulary self.now.words) self.now.scope s.old s.new result }
     {
         let token = s.rest.next_token();
         let term = match token.kind {
-            Kind::Variable(letter) => variable(self.scope.letters, letter, token.place)?,
-            Kind::Number(digits) => id(self.words.ids, digits, token.place)?,
+            Kind::Variable(letter) => self.variable(letter, token.place)?,
+            Kind::Number(digits) => self.id(digits, token.place)?,
             _ => return Err(GoalFault::Follow(token.place)),
         };
         s.pass(token);
@@ -170,8 +170,8 @@ impl Reader<'_> {
     }
 
     // The second term of a test, behind the first.
-    fn second(self, s: &mut Progress<'_>) -> Result<Term, GoalFault>
-        ensures { SecondSays (vocabulary self.entry.words) self.entry.scope s.old s.new result }
+    fn second(&self, s: &mut Progress<'_>) -> Result<Term, GoalFault>
+        ensures { SecondSays (vocabulary self.now.words) self.now.scope s.old s.new result }
     {
         s.expect(Sign::Comma)?;
         self.operand(s)
@@ -179,14 +179,14 @@ impl Reader<'_> {
 
     // A test, from its name on, whose name counts for so many nodes.
     pub fn test<'t>(
-        self,
+        &self,
         called: Called<'t>,
         nodes: usize,
         s: &mut Progress<'t>,
     ) -> Result<Atom, GoalFault>
         requires here { NameHere s.old called }
         requires few { nodes ≤ 1 }
-        ensures { TestSays (vocabulary self.entry.words) self.entry.scope nodes called.entry.token.place s.old s.new result }
+        ensures { TestSays (vocabulary self.now.words) self.now.scope nodes called.entry.token.place s.old s.new result }
     {
         let Some(sense) = find(self.words.predicates, called.name) else {
             return Err(GoalFault::Unknown(called.token.place));
@@ -216,9 +216,9 @@ impl Reader<'_> {
     }
 
     // A quantifier's variable and its bound.
-    fn bound(self, s: &mut Progress<'_>) -> Result<Bound, GoalFault>
-        requires { has_room self.scope.letters ≡ true }
-        ensures { BoundSays (vocabulary self.entry.words) self.entry.scope s.old s.new result }
+    fn bound(&self, s: &mut Progress<'_>) -> Result<Bound, GoalFault>
+        requires { has_room self.now.scope.letters ≡ true }
+        ensures { BoundSays (vocabulary self.now.words) self.now.scope s.old s.new result }
     {
         let token = s.rest.next_token();
         let Kind::Variable(letter) = token.kind else {
@@ -232,7 +232,7 @@ impl Reader<'_> {
         let named = called(s.rest)?;
         let inner = Reader {
             scope: self.scope.binding(letter),
-            ..self
+            ..*self
         };
         let atom = inner.test(named, 0, s)?;
         let variable = self.scope.letters.next();
@@ -243,8 +243,8 @@ impl Reader<'_> {
     }
 
     // What stands behind `A` or `E`.
-    fn quantified<'t>(self, token: Token<'t>, s: &mut Progress<'t>) -> Result<Bound, GoalFault>
-        ensures { (x : Quantifier) → Here s.old (mark (quantifier_mark x)) token.entry.place token.entry.rest → QuantifiedSays (vocabulary self.entry.words) self.entry.scope x s.old s.new result }
+    fn quantified<'t>(&self, token: Token<'t>, s: &mut Progress<'t>) -> Result<Bound, GoalFault>
+        ensures { (x : Quantifier) → Here s.old (mark (quantifier_mark x)) token.entry.place token.entry.rest → QuantifiedSays (vocabulary self.now.words) self.now.scope x s.old s.new result }
     {
         if self.scope.letters.are_full() {
             return Err(GoalFault::Limit(token.place));
@@ -255,7 +255,7 @@ impl Reader<'_> {
 
     // What stands before an item, whose first sign is at hand.
     pub fn prefix<'t>(
-        self,
+        &self,
         sign: Sign,
         token: Token<'t>,
         s: &mut Progress<'t>,
@@ -263,7 +263,7 @@ impl Reader<'_> {
         requires here { Here s.old (mark (mark_of sign)) token.place token.rest }
         requires no_truth { sign ≢ True }
         requires no_bracket { sign ≢ Open }
-        ensures { PrefixSays (vocabulary self.entry.words) self.entry.scope s.old s.new result }
+        ensures { PrefixSays (vocabulary self.now.words) self.now.scope s.old s.new result }
     {
         let scope = self.scope;
         match sign {
@@ -314,8 +314,8 @@ impl Reader<'_> {
     }
 
     // The right side of an equation, behind its left side.
-    pub fn equation(self, left: Term, s: &mut Progress<'_>) -> Result<usize, GoalFault>
-        ensures { EquationSays (vocabulary self.entry.words) self.entry.scope left s.old s.new result }
+    pub fn equation(&self, left: Term, s: &mut Progress<'_>) -> Result<usize, GoalFault>
+        ensures { EquationSays (vocabulary self.now.words) self.now.scope left s.old s.new result }
     {
         let token = s.rest.next_token();
         if !token.is(Sign::Equal) {

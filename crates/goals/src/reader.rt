@@ -1,12 +1,11 @@
-ghost use Rattle.std.specs.Prelude.{◌≡◌, ℕ, ◌+◌, ◌-◌, ◌<◌, ◌≤◌, length};
-ghost use Rattle.goals.specs.Reading.{Place, wants, at, open_at};
+ghost use Rattle.std.specs.Prelude.{◌<◌};
+ghost use Rattle.goals.specs.Reading.{wants};
 ghost use Rattle.goals.specs.Vocabulary.{vocabulary_of};
 ghost use Rattle.goals.specs.GoalClaims.{GoalSays, Exactly, OnlyReading, RightPlace};
 ghost use Rattle.goals.specs.Promises.{vocabulary, ItemSays, ClauseSays, FormulaSays, bracketed};
 
 use crate::goal::{Goal, GoalRoom, Node};
 use crate::goal_fault::GoalFault;
-use crate::parts::{id, variable};
 use crate::predicate::Predicate;
 use crate::progress::Progress;
 use crate::rest::Rest;
@@ -23,8 +22,8 @@ const MOST_DEPTH: usize = 16;
 impl Reader<'_> {
     // Clauses joined by `|`, from the left.
     #[cycle(bracket_clause_formula_item)]
-    fn formula(self, s: &mut Progress<'_>) -> Result<usize, GoalFault>
-        ensures { FormulaSays (vocabulary self.entry.words) self.entry.scope s.old s.new result }
+    fn formula(&self, s: &mut Progress<'_>) -> Result<usize, GoalFault>
+        ensures { FormulaSays (vocabulary self.now.words) self.now.scope s.old s.new result }
     {
         let mut left = self.clause(s)?;
         loop {
@@ -40,8 +39,8 @@ impl Reader<'_> {
 
     // Items joined by `&`, from the left.
     #[cycle(bracket_clause_formula_item)]
-    fn clause(self, s: &mut Progress<'_>) -> Result<usize, GoalFault>
-        ensures { ClauseSays (vocabulary self.entry.words) self.entry.scope s.old s.new result }
+    fn clause(&self, s: &mut Progress<'_>) -> Result<usize, GoalFault>
+        ensures { ClauseSays (vocabulary self.now.words) self.now.scope s.old s.new result }
     {
         let mut left = self.item(s)?;
         loop {
@@ -56,8 +55,8 @@ impl Reader<'_> {
     }
 
     #[cycle(bracket_clause_formula_item)]
-    fn item(self, s: &mut Progress<'_>) -> Result<usize, GoalFault>
-        ensures { ItemSays (vocabulary self.entry.words) self.entry.scope wants s.old s.new result }
+    fn item(&self, s: &mut Progress<'_>) -> Result<usize, GoalFault>
+        ensures { ItemSays (vocabulary self.now.words) self.now.scope wants s.old s.new result }
     {
         let token = s.rest.next_token();
         match token.kind {
@@ -66,12 +65,12 @@ impl Reader<'_> {
                 Ok(s.add(Node::Test(atom)))
             }
             Kind::Variable(letter) => {
-                let left = variable(self.scope.letters, letter, token.place)?;
+                let left = self.variable(letter, token.place)?;
                 s.pass(token);
                 self.equation(left, s)
             }
             Kind::Number(digits) => {
-                let left = id(self.words.ids, digits, token.place)?;
+                let left = self.id(digits, token.place)?;
                 s.pass(token);
                 self.equation(left, s)
             }
@@ -91,7 +90,7 @@ impl Reader<'_> {
                     let opening = self.prefix(sign, token, s)?;
                     let inner = Reader {
                         scope: opening.scope,
-                        ..self
+                        ..*self
                     };
                     let part = inner.item(s)?;
                     Ok(s.close(opening.prefix, part))
@@ -103,13 +102,13 @@ impl Reader<'_> {
 
     // What stands in a bracket, behind its opening.
     #[cycle(bracket_clause_formula_item)]
-    fn bracket(self, s: &mut Progress<'_>) -> Result<usize, GoalFault>
-        requires { self.scope.depth < 16 }
-        ensures { ItemSays (vocabulary self.entry.words) self.entry.scope bracketed s.old s.new result }
+    fn bracket(&self, s: &mut Progress<'_>) -> Result<usize, GoalFault>
+        requires { self.now.scope.depth < 16 }
+        ensures { ItemSays (vocabulary self.now.words) self.now.scope bracketed s.old s.new result }
     {
         let inner = Reader {
             scope: self.scope.deeper(),
-            ..self
+            ..*self
         };
         let first = inner.formula(s)?;
         let token = s.rest.next_token();

@@ -1,6 +1,6 @@
-ghost use Rattle.std.specs.Prelude.{◌≡◌, ℕ, suc, ◌+◌, ◌<◌, ◌≤◌, Bool, true, false, List, [], ◌∷◌, length, drop, MatchOption};
-ghost use Rattle.goals.specs.Tokens.{is_blank, more, token_of, run_of, sign_token, number_token, name_token, variable_token};
-ghost use Rattle.goals.specs.Seen.{mark_of, NoSign, Shows, is_sign, TokenAt};
+ghost use Rattle.std.specs.Prelude.{◌≡◌, ℕ, ◌+◌, ◌≤◌, Bool, List, ◌∷◌, length, drop, MatchOption};
+ghost use Rattle.goals.specs.Tokens.{run_of, sign_token, number_token, name_token, variable_token};
+ghost use Rattle.goals.specs.Seen.{mark_of, NoSign, Shows, Leads, is_sign, TokenAt};
 
 use crate::rest::Rest;
 
@@ -134,28 +134,28 @@ impl<'a> Kind<'a> {
         }
     }
 
-    // The kind of a token of these bytes.
-    fn of(first: u8, bytes: &'a [u8]) -> Kind<'a>
-        ensures { (bs : List ℕ) → bytes.now ≡ first ∷ bs → Shows result (token_of first bs) }
+    // The kind of the token that stands first, and how many bytes it has.
+    fn first_of(bytes: &'a [u8]) -> (Kind<'a>, usize)
+        ensures { Leads bytes.now result.0 result.1 }
     {
-        match first {
-            b'a'..=b'z' => Kind::name(bytes),
-            b'0'..=b'9' => Kind::number(bytes),
-            b'?' => Kind::variable(bytes),
-            _ => Kind::sign(char::from(first)),
+        let Some((first, behind)) = bytes.split_first() else {
+            return (Kind::End, 0);
+        };
+        match *first {
+            b'a'..=b'z' => {
+                let length = run_of(bytes, |b| b.is_ascii_lowercase());
+                (Kind::name(&bytes[..length]), length)
+            }
+            b'0'..=b'9' => {
+                let length = run_of(bytes, |b| b.is_ascii_digit());
+                (Kind::number(&bytes[..length]), length)
+            }
+            b'?' => {
+                let length = 1 + run_of(behind, |b| b.is_ascii_lowercase());
+                (Kind::variable(&bytes[..length]), length)
+            }
+            sign => (Kind::sign(char::from(sign)), 1),
         }
-    }
-}
-
-// How many bytes more belong to the token that begins with this one.
-fn more(first: u8, behind: &[u8]) -> usize
-    ensures within { result ≤ length behind.now }
-    ensures value { result ≡ more first behind.now }
-{
-    match first {
-        b'a'..=b'z' | b'?' => run_of(behind, |b| b.is_ascii_lowercase()),
-        b'0'..=b'9' => run_of(behind, |b| b.is_ascii_digit()),
-        _ => 0,
     }
 }
 
@@ -178,18 +178,10 @@ impl<'a> Rest<'a> {
     {
         let blanks = run_of(self.bytes, |b| b == b' ' || b == b'\n');
         let here = self.behind(blanks);
-        let place = here.place;
-        let Some((first, behind)) = here.bytes.split_first() else {
-            return Token {
-                kind: Kind::End,
-                place,
-                rest: here,
-            };
-        };
-        let length = 1 + more(*first, behind);
+        let (kind, length) = Kind::first_of(here.bytes);
         Token {
-            kind: Kind::of(*first, &here.bytes[..length]),
-            place,
+            kind,
+            place: here.place,
             rest: here.behind(length),
         }
     }

@@ -21,15 +21,15 @@ sign_here p v g s e f = here p v (e ∙ ap kind.Sign f) (mark (mark_of s)) (λ q
 
 pub clause-add-left-requires : goal.clause-add-left-requires
 clause-add-left-requires t c =
-    let V = vocabulary c.args.self.words in
-    let s = c.args.self.scope in
+    let V = vocabulary c.args.self.now.words in
+    let s = c.args.self.now.scope in
     let p = c.args.s.now in
     room_after c.in_ok-take.ensures c.in_ok-right.ensures.made
 
 pub clause-item-requires-in-loop-token : goal.clause-item-requires-in-loop-token
 clause-item-requires-in-loop-token t c =
-    let V = vocabulary c.args.self.words in
-    let s = c.args.self.scope in
+    let V = vocabulary c.args.self.now.words in
+    let s = c.args.self.now.scope in
     let p = c.args.s.now in
     let n = c.next_token-token in
     let a = passed-left c.in_ok-take.ensures in
@@ -40,8 +40,8 @@ clause-item-requires-in-loop-token t c =
 
 pub clause-loop-token-preserved : goal.clause-loop-token-preserved
 clause-loop-token-preserved t c =
-    let V = vocabulary c.args.self.words in
-    let s = c.args.self.scope in
+    let V = vocabulary c.args.self.now.words in
+    let s = c.args.self.now.scope in
     let p = c.args.s.now in
     let n = c.next_token-token in
     let h = sign_at c.loop-token.s n.ensures sign.And (sym c.if-not-is.ensures) in
@@ -49,16 +49,16 @@ clause-loop-token-preserved t c =
 
 pub clause-returns-in_err-left : goal.clause-returns-in_err-left
 clause-returns-in_err-left t c =
-    let V = vocabulary c.args.self.words in
-    let s = c.args.self.scope in
+    let V = vocabulary c.args.self.now.words in
+    let s = c.args.self.now.scope in
     let p = c.args.s.now in
     broke (ClauseSays V s p _) _ c.from_residual.result c.from_residual.ensures.1
     (λ o f e. c.in_err-left.ensures (at None o f) e)
 
 pub clause-returns-in_err-right : goal.clause-returns-in_err-right
 clause-returns-in_err-right t c =
-    let V = vocabulary c.args.self.words in
-    let s = c.args.self.scope in
+    let V = vocabulary c.args.self.now.words in
+    let s = c.args.self.now.scope in
     let p = c.args.s.now in
     let n = c.next_token-token in
     let h = sign_at c.loop-token.s n.ensures sign.And (sym c.if-not-is.ensures) in
@@ -67,8 +67,8 @@ clause-returns-in_err-right t c =
 
 pub clause-returns-in_err-take : goal.clause-returns-in_err-take
 clause-returns-in_err-take t c =
-    let V = vocabulary c.args.self.words in
-    let s = c.args.self.scope in
+    let V = vocabulary c.args.self.now.words in
+    let s = c.args.self.now.scope in
     let p = c.args.s.now in
     let n = c.next_token-token in
     let h = sign_at c.loop-token.s n.ensures sign.And (sym c.if-not-is.ensures) in
@@ -78,23 +78,23 @@ clause-returns-in_err-take t c =
 
 pub clause-returns-then-not-is : goal.clause-returns-then-not-is
 clause-returns-then-not-is t c =
-    let V = vocabulary c.args.self.words in
-    let s = c.args.self.scope in
+    let V = vocabulary c.args.self.now.words in
+    let s = c.args.self.now.scope in
     let p = c.args.s.now in
     let n = c.next_token-token in
     clause_done c.in_ok-left.ensures c.loop-token.invariant (not_at c.loop-token.s n.ensures sign.And (sym c.if-not-is.ensures))
 
 pub formula-add-left-requires : goal.formula-add-left-requires
 formula-add-left-requires t c =
-    let V = vocabulary c.args.self.words in
-    let s = c.args.self.scope in
+    let V = vocabulary c.args.self.now.words in
+    let s = c.args.self.now.scope in
     let p = c.args.s.now in
     room_after c.in_ok-take.ensures c.in_ok-right.ensures.made
 
 pub formula-clause-requires-in-loop-token : goal.formula-clause-requires-in-loop-token
 formula-clause-requires-in-loop-token t c =
-    let V = vocabulary c.args.self.words in
-    let s = c.args.self.scope in
+    let V = vocabulary c.args.self.now.words in
+    let s = c.args.self.now.scope in
     let p = c.args.s.now in
     let n = c.next_token-token in
     let a = passed-left c.in_ok-take.ensures in
@@ -105,8 +105,8 @@ formula-clause-requires-in-loop-token t c =
 
 pub formula-loop-token-preserved : goal.formula-loop-token-preserved
 formula-loop-token-preserved t c =
-    let V = vocabulary c.args.self.words in
-    let s = c.args.self.scope in
+    let V = vocabulary c.args.self.now.words in
+    let s = c.args.self.now.scope in
     let p = c.args.s.now in
     let n = c.next_token-token in
     let h = sign_at c.loop-token.s n.ensures sign.Or (sym c.if-not-is.ensures) in
@@ -114,16 +114,16 @@ formula-loop-token-preserved t c =
 
 pub formula-returns-in_err-left : goal.formula-returns-in_err-left
 formula-returns-in_err-left t c =
-    let V = vocabulary c.args.self.words in
-    let s = c.args.self.scope in
+    let V = vocabulary c.args.self.now.words in
+    let s = c.args.self.now.scope in
     let p = c.args.s.now in
     broke (FormulaSays V s p _) _ c.from_residual.result c.from_residual.ensures.1
     (λ f e. c.in_err-left.ensures None f e)
 
 pub formula-returns-in_err-right : goal.formula-returns-in_err-right
 formula-returns-in_err-right t c =
-    let V = vocabulary c.args.self.words in
-    let s = c.args.self.scope in
+    let V = vocabulary c.args.self.now.words in
+    let s = c.args.self.now.scope in
     let p = c.args.s.now in
     let n = c.next_token-token in
     let h = sign_at c.loop-token.s n.ensures sign.Or (sym c.if-not-is.ensures) in
@@ -132,8 +132,8 @@ formula-returns-in_err-right t c =
 
 pub formula-returns-in_err-take : goal.formula-returns-in_err-take
 formula-returns-in_err-take t c =
-    let V = vocabulary c.args.self.words in
-    let s = c.args.self.scope in
+    let V = vocabulary c.args.self.now.words in
+    let s = c.args.self.now.scope in
     let p = c.args.s.now in
     let n = c.next_token-token in
     let h = sign_at c.loop-token.s n.ensures sign.Or (sym c.if-not-is.ensures) in
@@ -143,23 +143,23 @@ formula-returns-in_err-take t c =
 
 pub formula-returns-then-not-is : goal.formula-returns-then-not-is
 formula-returns-then-not-is t c =
-    let V = vocabulary c.args.self.words in
-    let s = c.args.self.scope in
+    let V = vocabulary c.args.self.now.words in
+    let s = c.args.self.now.scope in
     let p = c.args.s.now in
     let n = c.next_token-token in
     formula_done c.in_ok-left.ensures c.loop-token.invariant (not_at c.loop-token.s n.ensures sign.Or (sym c.if-not-is.ensures))
 
 pub item-close-requires : goal.item-close-requires
 item-close-requires t c =
-    let V = vocabulary c.args.self.words in
-    let s = c.args.self.scope in
+    let V = vocabulary c.args.self.now.words in
+    let s = c.args.self.now.scope in
     let p = c.args.s.now in
     prefix-room c.in_ok-opening-in_default-sign.ensures c.in_ok-part-in_default-sign.ensures.made
 
 pub item-returns-then-self-ge-MOST_DEPTH : goal.item-returns-then-self-ge-MOST_DEPTH
 item-returns-then-self-ge-MOST_DEPTH t c =
-    let V = vocabulary c.args.self.words in
-    let s = c.args.self.scope in
+    let V = vocabulary c.args.self.now.words in
+    let s = c.args.self.now.scope in
     let p = c.args.s.now in
     let n = c.next_token-token in
     let h = sign_here p n.ensures c.in-Sign.sign sign.Open c.in-Sign.is c.in-Open.is in
@@ -167,8 +167,8 @@ item-returns-then-self-ge-MOST_DEPTH t c =
 
 pub item-returns-else-self-ge-MOST_DEPTH : goal.item-returns-else-self-ge-MOST_DEPTH
 item-returns-else-self-ge-MOST_DEPTH t c =
-    let V = vocabulary c.args.self.words in
-    let s = c.args.self.scope in
+    let V = vocabulary c.args.self.now.words in
+    let s = c.args.self.now.scope in
     let p = c.args.s.now in
     let n = c.next_token-token in
     let h = sign_here p n.ensures c.in-Sign.sign sign.Open c.in-Sign.is c.in-Open.is in
@@ -177,8 +177,8 @@ item-returns-else-self-ge-MOST_DEPTH t c =
 
 pub item-returns-in_err-take-in-True : goal.item-returns-in_err-take-in-True
 item-returns-in_err-take-in-True t c =
-    let V = vocabulary c.args.self.words in
-    let s = c.args.self.scope in
+    let V = vocabulary c.args.self.now.words in
+    let s = c.args.self.now.scope in
     let p = c.args.s.now in
     let n = c.next_token-token in
     let h = sign_here p n.ensures c.in-Sign.sign sign.True c.in-Sign.is c.in-True.is in
@@ -188,8 +188,8 @@ item-returns-in_err-take-in-True t c =
 
 pub item-returns-in_ok-take-in-True : goal.item-returns-in_ok-take-in-True
 item-returns-in_ok-take-in-True t c =
-    let V = vocabulary c.args.self.words in
-    let s = c.args.self.scope in
+    let V = vocabulary c.args.self.now.words in
+    let s = c.args.self.now.scope in
     let p = c.args.s.now in
     let n = c.next_token-token in
     let h = sign_here p n.ensures c.in-Sign.sign sign.True c.in-Sign.is c.in-True.is in
@@ -197,23 +197,23 @@ item-returns-in_ok-take-in-True t c =
 
 pub item-returns-in_err-atom-in-Name : goal.item-returns-in_err-atom-in-Name
 item-returns-in_err-atom-in-Name t c =
-    let V = vocabulary c.args.self.words in
-    let s = c.args.self.scope in
+    let V = vocabulary c.args.self.now.words in
+    let s = c.args.self.now.scope in
     let p = c.args.s.now in
     broke (ItemSays V s wants p _) _ c.from_residual.result c.from_residual.ensures.1
     (λ k e. c.in_err-atom-in-Name.ensures (alone k) e refl)
 
 pub item-returns-in_ok-atom-in-Name : goal.item-returns-in_ok-atom-in-Name
 item-returns-in_ok-atom-in-Name t c =
-    let V = vocabulary c.args.self.words in
-    let s = c.args.self.scope in
+    let V = vocabulary c.args.self.now.words in
+    let s = c.args.self.now.scope in
     let p = c.args.s.now in
     item-test c.in_ok-atom-in-Name.ensures c.add.ensures
 
 pub item-returns-in_err-left-in-Variable : goal.item-returns-in_err-left-in-Variable
 item-returns-in_err-left-in-Variable t c =
-    let V = vocabulary c.args.self.words in
-    let s = c.args.self.scope in
+    let V = vocabulary c.args.self.now.words in
+    let s = c.args.self.now.scope in
     let p = c.args.s.now in
     let n = c.next_token-token in
     let h = here p n.ensures c.in-Variable.is (variable c.in-Variable.letter) (λ q z. refl) in
@@ -223,8 +223,8 @@ item-returns-in_err-left-in-Variable t c =
 
 pub item-returns-in_err-left-in-Number : goal.item-returns-in_err-left-in-Number
 item-returns-in_err-left-in-Number t c =
-    let V = vocabulary c.args.self.words in
-    let s = c.args.self.scope in
+    let V = vocabulary c.args.self.now.words in
+    let s = c.args.self.now.scope in
     let p = c.args.s.now in
     let n = c.next_token-token in
     let h = here p n.ensures c.in-Number.is (digits c.in-Number.digits.now) (λ q z. refl) in
@@ -234,8 +234,8 @@ item-returns-in_err-left-in-Number t c =
 
 pub item-returns-in_ok-left-in-Variable : goal.item-returns-in_ok-left-in-Variable
 item-returns-in_ok-left-in-Variable t c =
-    let V = vocabulary c.args.self.words in
-    let s = c.args.self.scope in
+    let V = vocabulary c.args.self.now.words in
+    let s = c.args.self.now.scope in
     let p = c.args.s.now in
     let n = c.next_token-token in
     let h = here p n.ensures c.in-Variable.is (variable c.in-Variable.letter) (λ q z. refl) in
@@ -246,8 +246,8 @@ item-returns-in_ok-left-in-Variable t c =
 
 pub item-returns-in_ok-left-in-Number : goal.item-returns-in_ok-left-in-Number
 item-returns-in_ok-left-in-Number t c =
-    let V = vocabulary c.args.self.words in
-    let s = c.args.self.scope in
+    let V = vocabulary c.args.self.now.words in
+    let s = c.args.self.now.scope in
     let p = c.args.s.now in
     let n = c.next_token-token in
     let h = here p n.ensures c.in-Number.is (digits c.in-Number.digits.now) (λ q z. refl) in
@@ -258,39 +258,39 @@ item-returns-in_ok-left-in-Number t c =
 
 pub item-returns-in_err-part-in_default-sign : goal.item-returns-in_err-part-in_default-sign
 item-returns-in_err-part-in_default-sign t c =
-    let V = vocabulary c.args.self.words in
-    let s = c.args.self.scope in
+    let V = vocabulary c.args.self.now.words in
+    let s = c.args.self.now.scope in
     let p = c.args.s.now in
     broke (ItemSays V s wants p _) _ c.from_residual-in_err-part-in_default-sign.result c.from_residual-in_err-part-in_default-sign.ensures.1
     (prefix-fault c.in_ok-opening-in_default-sign.ensures _ c.in_err-part-in_default-sign.ensures)
 
 pub item-returns-in_ok-part-in_default-sign : goal.item-returns-in_ok-part-in_default-sign
 item-returns-in_ok-part-in_default-sign t c =
-    let V = vocabulary c.args.self.words in
-    let s = c.args.self.scope in
+    let V = vocabulary c.args.self.now.words in
+    let s = c.args.self.now.scope in
     let p = c.args.s.now in
     item-prefixed c.in_ok-opening-in_default-sign.ensures c.in_ok-part-in_default-sign.ensures c.close.ensures
 
 pub bracket-add-requires : goal.bracket-add-requires
 bracket-add-requires t c =
-    let V = vocabulary c.args.self.words in
-    let s = c.args.self.scope in
+    let V = vocabulary c.args.self.now.words in
+    let s = c.args.self.now.scope in
     let p = c.args.s.now in
     let d = c.deeper.ensures in
     pair-room d c.in_ok-first.ensures (c.in_ok-joint.ensures V) c.in_ok-second.ensures c.in_ok-expect.ensures
 
 pub bracket-returns : goal.bracket-returns
 bracket-returns t c =
-    let V = vocabulary c.args.self.words in
-    let s = c.args.self.scope in
+    let V = vocabulary c.args.self.now.words in
+    let s = c.args.self.now.scope in
     let p = c.args.s.now in
     let d = c.deeper.ensures in
     item-pair d c.in_ok-first.ensures (c.in_ok-joint.ensures V) c.in_ok-second.ensures c.in_ok-expect.ensures (subst (λ y. Added c.expect.new.self c.add.new.self y c.add.result) c.node.ensures c.add.ensures)
 
 pub bracket-returns-in_err-expect : goal.bracket-returns-in_err-expect
 bracket-returns-in_err-expect t c =
-    let V = vocabulary c.args.self.words in
-    let s = c.args.self.scope in
+    let V = vocabulary c.args.self.now.words in
+    let s = c.args.self.now.scope in
     let p = c.args.s.now in
     let d = c.deeper.ensures in
     let y = c.in_err-expect.ensures in
@@ -299,8 +299,8 @@ bracket-returns-in_err-expect t c =
 
 pub bracket-returns-in_err-first : goal.bracket-returns-in_err-first
 bracket-returns-in_err-first t c =
-    let V = vocabulary c.args.self.words in
-    let s = c.args.self.scope in
+    let V = vocabulary c.args.self.now.words in
+    let s = c.args.self.now.scope in
     let p = c.args.s.now in
     let d = c.deeper.ensures in
     broke (ItemSays V s bracketed p _) _ c.from_residual.result c.from_residual.ensures.1
@@ -308,8 +308,8 @@ bracket-returns-in_err-first t c =
 
 pub bracket-returns-in_err-joint : goal.bracket-returns-in_err-joint
 bracket-returns-in_err-joint t c =
-    let V = vocabulary c.args.self.words in
-    let s = c.args.self.scope in
+    let V = vocabulary c.args.self.now.words in
+    let s = c.args.self.now.scope in
     let p = c.args.s.now in
     let d = c.deeper.ensures in
     broke (ItemSays V s bracketed p _) _ c.from_residual-in_err-joint.result c.from_residual-in_err-joint.ensures.1
@@ -317,8 +317,8 @@ bracket-returns-in_err-joint t c =
 
 pub bracket-returns-in_err-second : goal.bracket-returns-in_err-second
 bracket-returns-in_err-second t c =
-    let V = vocabulary c.args.self.words in
-    let s = c.args.self.scope in
+    let V = vocabulary c.args.self.now.words in
+    let s = c.args.self.now.scope in
     let p = c.args.s.now in
     let d = c.deeper.ensures in
     broke (ItemSays V s bracketed p _) _ c.from_residual-in_err-second.result c.from_residual-in_err-second.ensures.1
@@ -326,8 +326,8 @@ bracket-returns-in_err-second t c =
 
 pub bracket-returns-then-is : goal.bracket-returns-then-is
 bracket-returns-then-is t c =
-    let V = vocabulary c.args.self.words in
-    let s = c.args.self.scope in
+    let V = vocabulary c.args.self.now.words in
+    let s = c.args.self.now.scope in
     let p = c.args.s.now in
     let d = c.deeper.ensures in
     let n = c.next_token-token in
@@ -337,12 +337,12 @@ bracket-returns-then-is t c =
 pub bracket-formula-requires-2 : goal.bracket-formula-requires-2
 bracket-formula-requires-2 t c =
     let a = c.in_ok-first.ensures.made.further in
-    let b = (c.in_ok-joint.ensures (vocabulary c.args.self.words)).further in
+    let b = (c.in_ok-joint.ensures (vocabulary c.args.self.now.words)).further in
     omega (arith, a, b)
 
 pub item-returns-in_default : goal.item-returns-in_default
 item-returns-in_default t c =
-    let V = vocabulary c.args.self.words in
+    let V = vocabulary c.args.self.now.words in
     let p = c.args.s.now in
     let n = c.next_token-token in
     λ k e. ap (run V p.count (wants k)) n.ensures.there ∙ no_item V p.count k n.result.kind n.result.place (tokens_in n.result.rest) c.in_default.not-Name c.in_default.not-Variable c.in_default.not-Number c.in_default.not-Sign

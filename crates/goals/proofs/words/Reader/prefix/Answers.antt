@@ -18,55 +18,55 @@ sign_here p place rest g s v f = subst (λ x. Here p (mark (mark_of x)) place re
 
 pub returns-in_err-take-in-Not : goal.returns-in_err-take-in-Not
 returns-in_err-take-in-Not c =
-    let V = vocabulary c.args.self.words in
+    let V = vocabulary c.args.self.now.words in
     let h = sign_here c.args.s.now c.args.token.place c.args.token.rest c.args.sign sign.Not c.requires.here c.in-Not.is in
     let x = c.in_err-take-in-Not.ensures in
-    broke (PrefixSays V c.args.self.scope c.args.s.now _) _ c.from_residual.result c.from_residual.ensures.1 (λ k e. told_as x.0 (unary-over V syntax.not h x.1 k))
+    broke (PrefixSays V c.args.self.now.scope c.args.s.now _) _ c.from_residual.result c.from_residual.ensures.1 (λ k e. told_as x.0 (unary-over V syntax.not h x.1 k))
 
 pub returns-in_ok-take-in-Not : goal.returns-in_ok-take-in-Not
 returns-in_ok-take-in-Not c =
     let h = sign_here c.args.s.now c.args.token.place c.args.token.rest c.args.sign sign.Not c.requires.here c.in-Not.is in
-    unary_read (vocabulary c.args.self.words) syntax.not h c.args.self.scope c.in_ok-take-in-Not.ensures
+    unary_read (vocabulary c.args.self.now.words) syntax.not h c.args.self.now.scope c.in_ok-take-in-Not.ensures
 
 pub returns-in_err-take-in-Next : goal.returns-in_err-take-in-Next
 returns-in_err-take-in-Next c =
-    let V = vocabulary c.args.self.words in
+    let V = vocabulary c.args.self.now.words in
     let h = sign_here c.args.s.now c.args.token.place c.args.token.rest c.args.sign sign.Next c.requires.here c.in-Next.is in
     let x = c.in_err-take-in-Next.ensures in
-    broke (PrefixSays V c.args.self.scope c.args.s.now _) _ c.from_residual-in_err-take-in-Next.result c.from_residual-in_err-take-in-Next.ensures.1 (λ k e. told_as x.0 (unary-over V syntax.next h x.1 k))
+    broke (PrefixSays V c.args.self.now.scope c.args.s.now _) _ c.from_residual-in_err-take-in-Next.result c.from_residual-in_err-take-in-Next.ensures.1 (λ k e. told_as x.0 (unary-over V syntax.next h x.1 k))
 
 pub returns-in_ok-take-in-Next : goal.returns-in_ok-take-in-Next
 returns-in_ok-take-in-Next c =
     let h = sign_here c.args.s.now c.args.token.place c.args.token.rest c.args.sign sign.Next c.requires.here c.in-Next.is in
-    unary_read (vocabulary c.args.self.words) syntax.next h c.args.self.scope c.in_ok-take-in-Next.ensures
+    unary_read (vocabulary c.args.self.now.words) syntax.next h c.args.self.now.scope c.in_ok-take-in-Next.ensures
 
 pub returns-in_err-t-in-Eventually : goal.returns-in_err-t-in-Eventually
 returns-in_err-t-in-Eventually c =
-    let V = vocabulary c.args.self.words in
+    let V = vocabulary c.args.self.now.words in
     let h = sign_here c.args.s.now c.args.token.place c.args.token.rest c.args.sign sign.Eventually c.requires.here c.in-Eventually.is in
-    broke (PrefixSays V c.args.self.scope c.args.s.now _) _ c.from_residual-in_err-t-in-Eventually.result c.from_residual-in_err-t-in-Eventually.ensures.1 (λ k e. c.in_err-t-in-Eventually.ensures V syntax.eventually refl h k)
+    broke (PrefixSays V c.args.self.now.scope c.args.s.now _) _ c.from_residual-in_err-t-in-Eventually.result c.from_residual-in_err-t-in-Eventually.ensures.1 (λ k e. c.in_err-t-in-Eventually.ensures V syntax.eventually refl h k)
 
 pub returns-in_ok-t-in-Eventually : goal.returns-in_ok-t-in-Eventually
 returns-in_ok-t-in-Eventually c =
     let h = sign_here c.args.s.now c.args.token.place c.args.token.rest c.args.sign sign.Eventually c.requires.here c.in-Eventually.is in
-    timed-prefix c.args.self.scope (c.in_ok-t-in-Eventually.ensures (vocabulary c.args.self.words) syntax.eventually refl h)
+    timed-prefix c.args.self.now.scope (c.in_ok-t-in-Eventually.ensures (vocabulary c.args.self.now.words) syntax.eventually refl h)
 
 pub returns-in_err-t-in-Always : goal.returns-in_err-t-in-Always
 returns-in_err-t-in-Always c =
-    let V = vocabulary c.args.self.words in
+    let V = vocabulary c.args.self.now.words in
     let h = sign_here c.args.s.now c.args.token.place c.args.token.rest c.args.sign sign.Always c.requires.here c.in-Always.is in
-    broke (PrefixSays V c.args.self.scope c.args.s.now _) _ c.from_residual-in_err-t-in-Always.result c.from_residual-in_err-t-in-Always.ensures.1 (λ k e. c.in_err-t-in-Always.ensures V syntax.henceforth refl h k)
+    broke (PrefixSays V c.args.self.now.scope c.args.s.now _) _ c.from_residual-in_err-t-in-Always.result c.from_residual-in_err-t-in-Always.ensures.1 (λ k e. c.in_err-t-in-Always.ensures V syntax.henceforth refl h k)
 
 pub returns-in_ok-t-in-Always : goal.returns-in_ok-t-in-Always
 returns-in_ok-t-in-Always c =
     let h = sign_here c.args.s.now c.args.token.place c.args.token.rest c.args.sign sign.Always c.requires.here c.in-Always.is in
-    timed-prefix c.args.self.scope (c.in_ok-t-in-Always.ensures (vocabulary c.args.self.words) syntax.henceforth refl h)
+    timed-prefix c.args.self.now.scope (c.in_ok-t-in-Always.ensures (vocabulary c.args.self.now.words) syntax.henceforth refl h)
 
 pub returns-in_err-b-in-ForAll : goal.returns-in_err-b-in-ForAll
 returns-in_err-b-in-ForAll c =
-    let V = vocabulary c.args.self.words in
+    let V = vocabulary c.args.self.now.words in
     let h = sign_here c.args.s.now c.args.token.place c.args.token.rest c.args.sign sign.ForAll c.requires.here c.in-ForAll.is in
-    broke (PrefixSays V c.args.self.scope c.args.s.now _) _ c.from_residual-in_err-b-in-ForAll.result c.from_residual-in_err-b-in-ForAll.ensures.1 (λ k e. c.in_err-b-in-ForAll.ensures syntax.for_all h k e)
+    broke (PrefixSays V c.args.self.now.scope c.args.s.now _) _ c.from_residual-in_err-b-in-ForAll.result c.from_residual-in_err-b-in-ForAll.ensures.1 (λ k e. c.in_err-b-in-ForAll.ensures syntax.for_all h k e)
 
 pub returns-in_ok-b-in-ForAll : goal.returns-in_ok-b-in-ForAll
 returns-in_ok-b-in-ForAll c =
@@ -75,9 +75,9 @@ returns-in_ok-b-in-ForAll c =
 
 pub returns-in_err-b-in-Exists : goal.returns-in_err-b-in-Exists
 returns-in_err-b-in-Exists c =
-    let V = vocabulary c.args.self.words in
+    let V = vocabulary c.args.self.now.words in
     let h = sign_here c.args.s.now c.args.token.place c.args.token.rest c.args.sign sign.Exists c.requires.here c.in-Exists.is in
-    broke (PrefixSays V c.args.self.scope c.args.s.now _) _ c.from_residual-in_err-b-in-Exists.result c.from_residual-in_err-b-in-Exists.ensures.1 (λ k e. c.in_err-b-in-Exists.ensures syntax.exists h k e)
+    broke (PrefixSays V c.args.self.now.scope c.args.s.now _) _ c.from_residual-in_err-b-in-Exists.result c.from_residual-in_err-b-in-Exists.ensures.1 (λ k e. c.in_err-b-in-Exists.ensures syntax.exists h k e)
 
 pub returns-in_ok-b-in-Exists : goal.returns-in_ok-b-in-Exists
 returns-in_ok-b-in-Exists c =
@@ -86,7 +86,7 @@ returns-in_ok-b-in-Exists c =
 
 pub returns-in_default : goal.returns-in_default
 returns-in_default c =
-    let V = vocabulary c.args.self.words in
+    let V = vocabulary c.args.self.now.words in
     let p = c.args.s.now in
     let t = c.args.token in
     λ k e. ap (run V p.count (wants k)) c.requires.here.there

@@ -12,8 +12,8 @@ use Rattle.goals.proofs.words.Reader.second.Goals as goal
 pub returns-in_err-expect : goal.returns-in_err-expect
 returns-in_err-expect c =
     let x = c.in_err-expect.ensures in
-    broke (SecondSays (vocabulary c.args.self.words) c.args.self.scope c.args.s.now _) _ c.from_residual.result c.from_residual.ensures.1
-    (λ a e. told_as x.0 (unexpected (vocabulary c.args.self.words) c.args.s.now 44 (asks a) x.1))
+    broke (SecondSays (vocabulary c.args.self.now.words) c.args.self.now.scope c.args.s.now _) _ c.from_residual.result c.from_residual.ensures.1
+    (λ a e. told_as x.0 (unexpected (vocabulary c.args.self.now.words) c.args.s.now 44 (asks a) x.1))
 
 both_ways : (V : Vocabulary) (s : Scope) (p q u : Progress) (r : Result Term GoalFault) → SignRead p q 44 → OperandSays V s q u r → SecondSays V s p u r
 both_ways V s p q u (Ok t) c o = second-read c o

@@ -1,12 +1,11 @@
 -- How the tests of bounds grow with the lists that are read, and what they say of one item.
 use Rattle.std.proofs.Common.{◌≡◌, ℕ, zero, suc, ◌+◌, ◌<◌, ◌≤◌, true, ◌&&◌, leb, List, [], ◌∷◌, ◌++◌, length, get_or, take, set, Some, None, refl, ap, ◌∙◌, subst, arith}
 use Rattle.std.specs.List.{slice_get}
-use Rattle.std.proofs.lemmas.Bool.{and_parts, and_from, le-leb, leb-true}
+use Rattle.std.proofs.lemmas.Bool.{and_parts, and_from, leb-true}
 use Rattle.std.proofs.lemmas.List.{length-take-le, get_or-take, take_more_set}
 use Rattle.std.proofs.lemmas.Option.{slice_get-get_or, slice_get_past}
 use Rattle.goals.specs.declared.operation.Operation.{Operation}
 use Rattle.goals.specs.declared.operation.Entry.{Entry}
-use Rattle.goals.specs.Entries.{entries_of}
 use Rattle.goals.specs.CatalogueRules.{sound_counts}
 use Rattle.goals.specs.EntryBounds.{entry_inside, entries_inside, operation_inside, operations_inside, Inside}
 
@@ -26,13 +25,6 @@ pub inside-more : (ids parameters : ℕ) (es : List Entry) (k : ℕ) (e : Entry)
     → entries_inside ids parameters (take (k + 1) (set es k e)) ≡ true
 inside-more ids parameters es k e lt h g =
     ap (entries_inside ids parameters) (take_more_set es k e lt) ∙ inside-push ids parameters (take k es) e h g
-
-pub operation-inside : (ids : ℕ) (o : Operation) → o.parameters ≤ 3 → o.span.hours ≤ 1000
-    → entries_inside ids o.parameters (entries_of o.needs) ≡ true → entries_inside ids o.parameters (entries_of o.takes) ≡ true → entries_inside ids o.parameters (entries_of o.puts) ≡ true
-    → operation_inside ids o ≡ true
-unfolding operation_inside
-operation-inside ids o p s n t u =
-    and_from _ _ (le-leb o.parameters 3 p) (and_from _ _ (le-leb o.span.hours 1000 s) (and_from _ _ n (and_from _ _ t u)))
 
 pub no_operations-inside : (ids : ℕ) → operations_inside ids [] ≡ true
 unfolding operations_inside

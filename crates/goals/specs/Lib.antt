@@ -11,6 +11,7 @@ pub mod Entries
 pub mod EntryBounds
 pub mod CatalogueMeaning
 pub mod CatalogueReading
+pub mod EntryReading
 pub mod Syntax
 pub mod Grammar
 pub mod Scopes

@@ -4,6 +4,7 @@ ghost use Rattle.goals.specs.Sections.{predicates_from, operations_from};
 ghost use Rattle.goals.specs.CatalogueRules.{taken, sound_counts, sound_predicates};
 ghost use Rattle.goals.specs.CatalogueMeaning.{sound_operations, AtFault};
 ghost use Rattle.goals.specs.CatalogueReading.{CatalogueSays};
+ghost use Rattle.goals.specs.EntryReading.{OperationsSay};
 ghost use Rattle.goals.specs.EntryBounds.{operations_inside};
 ghost use Rattle.goals.specs.Entries.{predicate_text, operation_text};
 
@@ -12,7 +13,7 @@ use crate::catalogue_fault::CatalogueFault;
 use crate::frame::{Frame, PREDICATES_AT, entries};
 use crate::operation::Operation;
 use crate::predicate::{Predicate, find};
-use crate::read_operation::read_operation;
+use crate::read_operation::OperationReader;
 use crate::read_predicate::read_predicate;
 
 // Does one of the predicates have the name?
@@ -24,56 +25,47 @@ fn is_taken(predicates: &[Predicate], predicate: &Predicate) -> bool
     find(predicates, &predicate.name[0..predicate.length]).is_some()
 }
 
-// Reads the predicates; false if one of them breaks a rule or has a name that one before it has.
-fn read_predicates(file: &[u8], count: u8, predicates: &mut Vec<Predicate>) -> bool
+// Reads the predicates; a fault if one of them breaks a rule or has a name that one before it has.
+fn read_predicates(
+    file: &[u8],
+    count: u8,
+    predicates: &mut Vec<Predicate>,
+) -> Result<(), CatalogueFault>
     requires none { vec_len predicates.old ≡ 0 }
     requires room { 16 ≤ vec_capacity predicates.old }
     requires few { count ≤ 16 }
-    ensures { MatchBool result
-        ((map predicate_text predicates.new.items ≡ predicates_from file.now count 14) × (sound_predicates [] (predicates_from file.now count 14) ≡ true))
-        (sound_predicates [] (predicates_from file.now count 14) ≡ false) }
+    ensures { MatchResult result
+        (λ _. (map predicate_text predicates.new.items ≡ predicates_from file.now count 14) × (sound_predicates [] (predicates_from file.now count 14) ≡ true))
+        (λ fault. (fault ≡ CatalogueFault.Shape) × (sound_predicates [] (predicates_from file.now count 14) ≡ false)) }
 {
     let mut at = PREDICATES_AT;
     for _ in 0..count {
-        let Some(predicate) = read_predicate(file, at) else {
-            return false;
-        };
+        let predicate = read_predicate(file, at).ok_or(CatalogueFault::Shape)?;
         if is_taken(predicates, &predicate) {
-            return false;
+            return Err(CatalogueFault::Shape);
         }
         at += 2 + predicate.length;
         predicates.push_reserved(predicate);
     }
-    true
+    Ok(())
 }
 
-// Reads the operations; else the number of one that breaks a rule.
+// Reads the operations; else the fault names one that breaks a rule.
 fn read_operations(
-    file: &[u8],
-    start: usize,
-    count: u8,
-    ids: u8,
-    predicates: &[Predicate],
+    reader: OperationReader<'_>,
+    frame: Frame,
     operations: &mut Vec<Operation>,
-) -> Result<(), u8>
+) -> Result<(), CatalogueFault>
     requires none { vec_len operations.old ≡ 0 }
     requires room { 64 ≤ vec_capacity operations.old }
-    requires few { count ≤ 64 }
-    requires near { start ≤ 40000 }
-    requires some { 0 < ids }
-    requires named { length predicates.now ≤ 16 }
-    ensures { MatchResult result
-        (λ _. (map operation_text operations.new.items ≡ operations_from file.now count start)
-        × (sound_operations ids (map predicate_text predicates.now) (operations_from file.now count start) ≡ true)
-        × (operations_inside ids operations.new.items ≡ true))
-        (λ k. AtFault ids (map predicate_text predicates.now) (operations_from file.now count start) k) }
+    requires few { frame.operations ≤ 64 }
+    requires near { frame.operations_at ≤ 40000 }
+    ensures { OperationsSay reader.entry frame operations.new.items result }
 {
-    let mut at = start;
-    for k in 0..count {
-        let Some(operation) = read_operation(file, at, ids, predicates) else {
-            return Err(k);
-        };
-        at += 6 + 3 * entries(file, at);
+    let mut at = frame.operations_at;
+    for k in 0..frame.operations {
+        let operation = reader.read(at).ok_or(CatalogueFault::Operation(k))?;
+        at += 6 + 3 * entries(reader.file, at);
         operations.push_reserved(operation);
     }
     Ok(())
@@ -110,19 +102,13 @@ pub(crate) fn read_catalogue(
         mut predicates,
         mut operations,
     } = room;
-    if !read_predicates(file, frame.predicates, &mut predicates) {
-        return Err(CatalogueFault::Shape);
-    }
-    if let Err(number) = read_operations(
+    read_predicates(file, frame.predicates, &mut predicates)?;
+    let reader = OperationReader {
         file,
-        frame.operations_at,
-        frame.operations,
-        frame.ids,
-        predicates.as_slice(),
-        &mut operations,
-    ) {
-        return Err(CatalogueFault::Operation(number));
-    }
+        ids: frame.ids,
+        predicates: &predicates,
+    };
+    read_operations(reader, frame, &mut operations)?;
     Ok(Catalogue {
         ids: frame.ids,
         predicates,

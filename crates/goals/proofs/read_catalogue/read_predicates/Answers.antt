@@ -1,7 +1,8 @@
-use Rattle.std.proofs.Common.{◌≡◌, ◌+◌, ◌-◌, [], ◌++◌, map, vec_items, sym, refl, ap, ◌∙◌, arith}
+use Rattle.std.proofs.Common.{◌≡◌, ◌+◌, Some, None, [], ◌++◌, map, vec_items, sym, refl, ap, ◌∙◌, arith}
 use Rattle.std.proofs.lemmas.List.{nil_from_length, append-nil}
+use Rattle.std.proofs.lemmas.Result.{err_from_is_err_and}
+use Rattle.goals.specs.declared.catalogue_fault.CatalogueFault.TheVariants.{Shape}
 use Rattle.goals.specs.Bytes.{byte_at}
-use Rattle.goals.specs.Sections.{predicates_from}
 use Rattle.goals.specs.CatalogueRules.{sound_predicates, taken}
 use Rattle.goals.specs.Vocabulary.{name_of}
 use Rattle.goals.specs.Entries.{predicate_text}
@@ -10,53 +11,60 @@ use Rattle.goals.proofs.read_catalogue.read_predicates.Goals as goal
 
 pub loop-init : goal.loop-init
 loop-init c =
-    let none : vec_items c.args.predicates.now ≡ [] = nil_from_length (vec_items c.args.predicates.now) (sym c.args.predicates.now.ok.0 ∙ c.requires.none) in (
-      left_start c.args.file.now c.args.count 14
-          ∙ ap (λ l. map predicate_text l ++ predicates_from c.args.file.now (c.args.count - 0) 14) (sym none),
-      ap (sound_predicates []) (left_start c.args.file.now c.args.count 14)
-          ∙ ap (λ l. sound_predicates (map predicate_text l) (predicates_from c.args.file.now (c.args.count - 0) 14)) (sym none),
-      c.requires.none,
-      c.requires.room,
-      omega arith,
-    )
+    let none : vec_items c.args.predicates.now ≡ [] = nil_from_length (vec_items c.args.predicates.now) (sym c.args.predicates.now.ok.0 ∙ c.requires.none) in
+    record {
+      texts = rw none (left_start c.args.file.now c.args.count 14);
+      test = rw none (ap (sound_predicates []) (left_start c.args.file.now c.args.count 14));
+      count = c.requires.none;
+      room = c.requires.room;
+      near = omega arith;
+    }
 
-pub returns-in_default : goal.returns-in_default
-returns-in_default c =
-    c.loop.invariant.1
-    ∙ test-bad c.args.file.now c.args.count c.loop.counter c.loop.at (map predicate_text (vec_items c.loop.predicates)) c.loop-test.true c.in_default.ensures
+pub returns-in_err-predicate : goal.returns-in_err-predicate
+returns-in_err-predicate c =
+    let none : c.read_predicate.result ≡ None = c.in_err-predicate.ensures.ok_part in
+    let value = rw none at c.in_err-predicate.ensures.value in
+    let named : c.in_err-predicate.field-0.0 ≡ Shape = cc in
+    let p = err_from_is_err_and c.from_residual.result c.from_residual.ensures.1 in
+    rw (p.1, p.2, named)
+    (refl, c.loop.invariant.test ∙ test-bad c.args.file.now c.args.count c.loop.counter c.loop.at (map predicate_text (vec_items c.loop.predicates)) c.loop-test.true (rw none at c.read_predicate.ensures))
 
 pub returns-then-is_taken : goal.returns-then-is_taken
 returns-then-is_taken c =
-    c.loop.invariant.1
-    ∙ test-taken c.args.file.now c.args.count c.loop.counter c.loop.at _ (vec_items c.loop.predicates) c.in-Some.predicate c.loop-test.true refl c.in-Some.ensures.0
-    (ap (λ l. taken (name_of c.in-Some.predicate) (map predicate_text l)) (sym c.deref.ensures.value) ∙ sym c.if-is_taken.ensures)
+    let some : c.read_predicate.result ≡ Some c.in_ok-predicate.predicate = c.in_ok-predicate.ensures.ok_part in
+    let says = rw some at c.read_predicate.ensures in (
+      refl,
+      c.loop.invariant.test
+          ∙ test-taken c.args.file.now c.args.count c.loop.counter c.loop.at _ (vec_items c.loop.predicates) c.in_ok-predicate.predicate c.loop-test.true refl says.0
+          (ap (λ l. taken (name_of c.in_ok-predicate.predicate) (map predicate_text l)) (sym c.deref.ensures.value) ∙ sym c.if-is_taken.ensures),
+    )
 
 pub loop-preserved : goal.loop-preserved
 loop-preserved c =
     let items = c.push_reserved.ensures.items in
-    let len = c.push_reserved.ensures.len in
-    let cap = c.push_reserved.ensures.capacity in
-    let next : c.loop.at + (2 + c.in-Some.predicate.length) ≡ c.loop.at + 2 + byte_at c.args.file.now (c.loop.at + 1) = omega (arith, c.in-Some.ensures.3) in (
-      c.loop.invariant.0
-          ∙ (table_more c.args.file.now c.args.count c.loop.counter c.loop.at _ (vec_items c.loop.predicates) c.in-Some.predicate c.loop-test.true next c.in-Some.ensures.0
-          ∙ ap (λ l. map predicate_text l ++ predicates_from c.args.file.now (c.args.count - (c.loop.counter + 1)) (c.loop.at + (2 + c.in-Some.predicate.length))) (sym items)),
-      c.loop.invariant.1
-          ∙ (test-more c.args.file.now c.args.count c.loop.counter c.loop.at _ (vec_items c.loop.predicates) c.in-Some.predicate c.loop-test.true next c.in-Some.ensures.0 c.in-Some.ensures.1
-          (ap (λ l. taken (name_of c.in-Some.predicate) (map predicate_text l)) (sym c.deref.ensures.value) ∙ sym c.if-is_taken.ensures)
-          ∙ ap (λ l. sound_predicates (map predicate_text l) (predicates_from c.args.file.now (c.args.count - (c.loop.counter + 1)) (c.loop.at + (2 + c.in-Some.predicate.length)))) (sym items)),
-      omega (arith, len, c.loop.invariant.2),
-      omega (arith, cap, c.loop.invariant.3),
-      omega (arith, c.loop.invariant.4, c.in-Some.ensures.2),
-    )
+    let some : c.read_predicate.result ≡ Some c.in_ok-predicate.predicate = c.in_ok-predicate.ensures.ok_part in
+    let says = rw some at c.read_predicate.ensures in
+    let next : c.loop.at + (2 + c.in_ok-predicate.predicate.length) ≡ c.loop.at + 2 + byte_at c.args.file.now (c.loop.at + 1) = omega (arith, says.3) in
+    record {
+      texts = rw items (c.loop.invariant.texts ∙ table_more c.args.file.now c.args.count c.loop.counter c.loop.at _ (vec_items c.loop.predicates) c.in_ok-predicate.predicate c.loop-test.true next says.0);
+      test =
+          rw items
+          (c.loop.invariant.test
+          ∙ test-more c.args.file.now c.args.count c.loop.counter c.loop.at _ (vec_items c.loop.predicates) c.in_ok-predicate.predicate c.loop-test.true next says.0 says.1
+          (ap (λ l. taken (name_of c.in_ok-predicate.predicate) (map predicate_text l)) (sym c.deref.ensures.value) ∙ sym c.if-is_taken.ensures));
+      count = omega arith;
+      room = omega arith;
+      near = omega (arith, says.2);
+    }
 
 pub returns : goal.returns
 returns c =
     let n = left_none c.args.file.now c.args.count c.loop.counter c.loop.at c.loop-test.false in (
       sym
-          (c.loop.invariant.0
+          (c.loop.invariant.texts
           ∙ (ap (λ t. map predicate_text (vec_items c.loop.predicates) ++ t) n
           ∙ append-nil (map predicate_text (vec_items c.loop.predicates)))),
-      c.loop.invariant.1
+      c.loop.invariant.test
           ∙ (ap (sound_predicates (map predicate_text (vec_items c.loop.predicates))) n
           ∙ sound_none (map predicate_text (vec_items c.loop.predicates))),
     )

@@ -1,5 +1,5 @@
 -- From a framed file to its job: where the goal text lies, and that the catalogue's words are the file's.
-use Rattle.std.proofs.Common.{◌≡◌, ℕ, zero, suc, ◌+◌, ◌-◌, ◌*◌, ◌<◌, ◌≤◌, true, cond, ◌&&◌, leb, List, [], ◌∷◌, map, length, get_or, take, drop, Ok, vec_items, vec_len, sym, refl, ap, ◌∙◌, subst, ap₂, arith}
+use Rattle.std.proofs.Common.{◌≡◌, ℕ, zero, suc, ◌+◌, ◌-◌, ◌*◌, ◌≤◌, true, cond, ◌&&◌, leb, List, [], ◌∷◌, map, length, take, drop, Ok, vec_items, vec_len, sym, refl, ap, ◌∙◌, subst, ap₂, arith}
 use mathlib.Core.Path.{fun_ext}
 use Rattle.std.specs.Str.{bytes_eq}
 use Rattle.std.proofs.lemmas.List.{take_all, length-map}
@@ -9,7 +9,6 @@ use Rattle.goals.specs.declared.predicate.Predicate.{Predicate}
 use Rattle.goals.specs.declared.catalogue.Catalogue.{Catalogue}
 use Rattle.goals.specs.Bytes.{byte_at}
 use Rattle.goals.specs.Frame.{framed, frame_of, operations_end}
-use Rattle.goals.specs.Sections.{bytes_at}
 use Rattle.goals.specs.CatalogueRules.{sound_counts, sound_predicates}
 use Rattle.goals.specs.CatalogueMeaning.{shape_sound, sound_operations}
 use Rattle.goals.specs.CatalogueReading.{Spelled}
@@ -17,7 +16,7 @@ use Rattle.goals.specs.Entries.{predicate_text, operation_text}
 use Rattle.goals.specs.Vocabulary.{find_from, vocabulary_of, name_of, found, places_of}
 use Rattle.goals.specs.JobText.{goal_text, find_text, words_from, words_of, operations_sound}
 use Rattle.goals.proofs.FrameSteps.{accepted, sections}
-use Rattle.goals.proofs.PredicateSteps.{predicates-count}
+use Rattle.goals.proofs.PredicateSteps.{slice_bytes, predicates-count}
 use Rattle.goals.proofs.OperationSteps.{operations-count}
 
 -- places
@@ -57,18 +56,6 @@ pub inside : (file : List ℕ) (f : Frame) → Ok f ≡ framed file → Inside f
 inside file f e =
     let a = accepted file f e in
     subst (Inside file) (sym a.frame) (inside_of file (ap (λ g. g.end) (sym a.frame) ∙ a.whole) a.short)
-
--- the bytes of a part are a slice
-pub slice_bytes : (file : List ℕ) (n at : ℕ) → at + n ≤ length file → take n (drop at file) ≡ bytes_at file n at
-unfolding bytes_at
-slice_bytes file zero at l = refl
-slice_bytes file (suc n) at l =
-    ap (take (suc n)) (drop-one file at (omega arith)) ∙ ap (λ t. byte_at file at ∷ t) (slice_bytes file n (at + 1) (omega arith))
-  where
-    drop-one : (xs : List ℕ) (k : ℕ) → k < length xs → drop k xs ≡ get_or xs k 0 ∷ drop (k + 1) xs
-    drop-one [] k h = absurd (omega arith)
-    drop-one (x ∷ xs) zero h = refl
-    drop-one (x ∷ xs) (suc k) h = drop-one xs k (omega arith) ∙ ap (λ m. get_or xs k 0 ∷ drop m (x ∷ xs)) (let e : suc (k + 1) ≡ suc k + 1 = omega arith in e)
 
 pub goal_slice : (file : List ℕ) (f : Frame) → Inside file f → take (f.steps_at - f.goal_at) (drop f.goal_at file) ≡ goal_text file f
 goal_slice file f i =

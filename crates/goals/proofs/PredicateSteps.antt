@@ -1,12 +1,12 @@
 -- What each way through the reading of a predicate and of all predicates says, over plain values.
-use Rattle.std.proofs.Common.{◌≡◌, ℕ, zero, suc, ◌+◌, ◌-◌, ◌<◌, ◌≤◌, Bool, true, false, cond, not, ◌&&◌, ◌||◌, leb, List, [], ◌∷◌, ◌++◌, map, length, take, set, is_some, Some, None, Option, sym, refl, ap, ◌∙◌, arith}
-use Rattle.std.proofs.lemmas.List.{take_more_set, append_assoc, map_push}
+use Rattle.std.proofs.Common.{◌≡◌, ℕ, zero, suc, ◌+◌, ◌-◌, ◌<◌, ◌≤◌, Bool, true, false, not, ◌&&◌, ◌||◌, leb, List, [], ◌∷◌, ◌++◌, map, length, take, drop, sym, refl, ap, ◌∙◌, add-one, drop-cons, arith}
+use Rattle.std.specs.List.{slice_range, list_any}
+use Rattle.std.proofs.lemmas.List.{append_assoc, map_push, get_or_past}
+use Rattle.std.proofs.lemmas.List.Folds.{list_all-append}
 use Rattle.std.proofs.lemmas.Bool.{and_left, and_right, not_from_true}
 use Rattle.std.specs.Str.{bytes_eq}
 use Rattle.goals.specs.declared.predicate.Predicate.{Predicate}
-use Rattle.goals.specs.declared.predicate.Sense.{Sense}
-use Rattle.goals.specs.Vocabulary.{Found, name_of, find_from, found, places_of, is_known}
-use Rattle.goals.specs.Meanings.{meaning}
+use Rattle.goals.specs.Vocabulary.{name_of}
 use Rattle.goals.specs.Bytes.{byte_at}
 use Rattle.goals.specs.Tokens.{is_letter}
 use Rattle.goals.specs.Sections.{PredicateText, bytes_at, predicate_at, predicates_from}
@@ -28,32 +28,25 @@ bytes-more file (suc k) at =
     ∙ ap (λ l. byte_at file at ∷ l)
     (bytes-more file k (at + 1) ∙ ap (λ n. bytes_at file k (at + 1) ++ byte_at file n ∷ []) (let e : at + 1 + k ≡ at + suc k = omega arith in e))
 
-pub no_bytes : (file : List ℕ) (at : ℕ) → [] ≡ bytes_at file 0 at
+-- the bytes of a part are a slice
+pub slice_bytes : (file : List ℕ) (n at : ℕ) → at + n ≤ length file → take n (drop at file) ≡ bytes_at file n at
 unfolding bytes_at
-no_bytes file at = refl
+slice_bytes file zero at l = refl
+slice_bytes file (suc n) at l =
+    let one : drop at file ≡ byte_at file at ∷ drop (at + 1) file = rw add-one (drop-cons file at 0 (omega arith)) in
+    ap (take (suc n)) one ∙ ap (λ t. byte_at file at ∷ t) (slice_bytes file n (at + 1) (omega arith))
 
--- what is left to test, one letter on
-pub letters-more : (file : List ℕ) (n k at : ℕ) (v : Bool) → k < n → v ≡ is_letter (byte_at file (at + k)) →
-    all_letters (bytes_at file (n - k) (at + k)) ≡ (v && all_letters (bytes_at file (n - (k + 1)) (at + (k + 1))))
-unfolding bytes_at all_letters
-letters-more file n k at v l h =
-    ap (λ m. all_letters (bytes_at file m (at + k))) (let e : n - k ≡ suc (n - (k + 1)) = omega arith in e)
-    ∙ (ap (λ m. is_letter (byte_at file (at + k)) && all_letters (bytes_at file (n - (k + 1)) m)) (let e : at + k + 1 ≡ at + (k + 1) = omega arith in e)
-    ∙ ap (λ t. t && all_letters (bytes_at file (n - (k + 1)) (at + (k + 1)))) (sym h))
+pub range-bytes : (file : List ℕ) (n at : ℕ) → at + n ≤ length file → slice_range file at (at + n) ≡ bytes_at file n at
+range-bytes file n at l = ap (λ m. take m (drop at file)) (let e : at + n - at ≡ n = omega arith in e) ∙ slice_bytes file n at l
 
-pub letters-all : (file : List ℕ) (n k at : ℕ) → n ≤ k → all_letters (bytes_at file (n - k) (at + k)) ≡ true
-unfolding bytes_at all_letters
-letters-all file n k at l = ap (λ m. all_letters (bytes_at file m (at + k))) (let e : n - k ≡ 0 = omega arith in e)
-
-pub letters-start : (file : List ℕ) (n at : ℕ) → all_letters (bytes_at file n at) ≡ all_letters (bytes_at file (n - 0) (at + 0))
-letters-start file n at =
-    ap (λ m. all_letters (bytes_at file m at)) (let e : n ≡ n - 0 = omega arith in e)
-    ∙ ap (λ m. all_letters (bytes_at file (n - 0) m)) (let e : at ≡ at + 0 = omega arith in e)
-
-pub name-more : (name : List ℕ) (k b : ℕ) (file : List ℕ) (at : ℕ) → k < length name → take k name ≡ bytes_at file k at → b ≡ byte_at file (at + k) →
-    take (k + 1) (set name k b) ≡ bytes_at file (k + 1) at
-name-more name k b file at l e h =
-    take_more_set name k b l ∙ (ap (λ t. t ++ b ∷ []) e ∙ (ap (λ t. bytes_at file k at ++ t ∷ []) h ∙ sym (bytes-more file k at)))
+-- a byte past the end is no letter
+pub letters_past : (file : List ℕ) (n at : ℕ) → 0 < n → length file < at + n → all_letters (bytes_at file n at) ≡ false
+letters_past file zero at z l = absurd (omega arith)
+letters_past file (suc k) at z l =
+    ap (λ m. all_letters (bytes_at file m at)) (let e : suc k ≡ k + 1 = omega arith in e)
+    ∙ ap all_letters (bytes-more file k at)
+    ∙ list_all-append is_letter (bytes_at file k at) (byte_at file (at + k) ∷ [])
+    ∙ and_right (all_letters (bytes_at file k at)) _ (ap (λ b. is_letter b && true) (get_or_past file (at + k) 0 (omega arith)))
 
 -- one predicate
 
@@ -80,19 +73,9 @@ predicate_back x places name ep en = λ i. record { places = ep i; name = en i }
 
 -- names that are taken
 
-known_by : (v t : Bool) (f g : Found) → is_known f ≡ true → is_known g ≡ t → is_known (cond v f g) ≡ (v || t)
-known_by true t f g e h = e
-known_by false t f g e h = h
-
-pub known-taken : (i : ℕ) (ps : List Predicate) (b : List ℕ) → is_known (find_from i ps b) ≡ taken b (map predicate_text ps)
-unfolding find_from taken
-known-taken i [] b = refl
-known-taken i (p ∷ ps) b =
-    known_by (bytes_eq (name_of p) b) (taken b (map predicate_text ps)) (found i (places_of p.places)) (find_from (suc i) ps b) refl (known-taken (suc i) ps b)
-
-pub meaning-known : (o : Option Sense) → is_some o ≡ is_known (meaning o)
-meaning-known None = refl
-meaning-known (Some x) = refl
+pub taken-map : (b : List ℕ) (ps : List Predicate) → list_any (λ p. bytes_eq (name_of p) b) ps ≡ taken b (map predicate_text ps)
+taken-map b [] = refl
+taken-map b (p ∷ ps) = ap (λ t. bytes_eq (name_of p) b || t) (taken-map b ps)
 
 -- predicates, one at a time
 

@@ -1,4 +1,6 @@
 ghost use Rattle.std.specs.Prelude.{◌≡◌, ℕ, ◌+◌, ◌*◌, ◌<◌, ◌≤◌, true, false, List, [], map, length, vec_len, vec_capacity, MatchBool, MatchResult};
+ghost use Rattle.std.specs.List.{list_any};
+ghost use Rattle.std.specs.Str.{bytes_eq};
 ghost use Rattle.goals.specs.Vocabulary.{name_of};
 ghost use Rattle.goals.specs.Sections.{predicates_from, operations_from};
 ghost use Rattle.goals.specs.CatalogueRules.{taken, sound_counts, sound_predicates};
@@ -12,17 +14,17 @@ use crate::catalogue::{Catalogue, CatalogueRoom};
 use crate::catalogue_fault::CatalogueFault;
 use crate::frame::{Frame, PREDICATES_AT, entries};
 use crate::operation::Operation;
-use crate::predicate::{Predicate, find};
+use crate::predicate::Predicate;
 use crate::read_operation::OperationReader;
 use crate::read_predicate::read_predicate;
 
 // Does one of the predicates have the name?
-fn is_taken(predicates: &[Predicate], predicate: &Predicate) -> bool
-    requires few { length predicates.now ≤ 256 }
-    requires short { predicate.now.length ≤ 16 }
-    ensures { result ≡ taken (name_of predicate.now) (map predicate_text predicates.now) }
+fn is_taken(predicates: &[Predicate], name: &[u8]) -> bool
+    ensures { result ≡ list_any (λ p. bytes_eq (name_of p) name.now) predicates.now }
 {
-    find(predicates, &predicate.name[0..predicate.length]).is_some()
+    predicates
+        .iter()
+        .any(|predicate| predicate.letters() == name)
 }
 
 // Reads the predicates; a fault if one of them breaks a rule or has a name that one before it has.
@@ -41,7 +43,7 @@ fn read_predicates(
     let mut at = PREDICATES_AT;
     for _ in 0..count {
         let predicate = read_predicate(file, at).ok_or(CatalogueFault::Shape)?;
-        if is_taken(predicates, &predicate) {
+        if is_taken(predicates, predicate.letters()) {
             return Err(CatalogueFault::Shape);
         }
         at += 2 + predicate.length;
@@ -75,9 +77,9 @@ fn read_operations(
 fn counts_in_limits(frame: Frame) -> bool
     ensures { result ≡ sound_counts frame.ids frame.predicates frame.operations }
 {
-    (frame.ids >= 1 && frame.ids <= MOST_IDS)
-        && ((frame.predicates >= 1 && frame.predicates <= MOST_PREDICATES)
-            && frame.operations <= MOST_OPERATIONS)
+    (1..=MOST_IDS).contains(&frame.ids)
+        && (1..=MOST_PREDICATES).contains(&frame.predicates)
+        && frame.operations <= MOST_OPERATIONS
 }
 
 const MOST_IDS: u8 = 128;

@@ -103,8 +103,8 @@ impl EntryReader<'_> {
             return None;
         }
         let mut items = [UNUSED; MOST_ENTRIES];
-        for k in 0..count {
-            items[k] = self.entry(at + 3 * k)?;
+        for (k, item) in items[..count].iter_mut().enumerate() {
+            *item = self.entry(at + 3 * k)?;
         }
         Some(Entries { items, count })
     }
@@ -142,9 +142,8 @@ impl OperationReader<'_> {
             needs: true,
         };
         let changed = EntryReader {
-            operations: self,
-            parameters,
             needs: false,
+            ..needed
         };
         let needs = needed.entries(at + 6, need_count)?;
         let takes = changed.entries(takes_at, take_count)?;

@@ -1,13 +1,20 @@
-use Rattle.std.proofs.Common.{◌≡◌, ◌+◌, Some, None, [], ◌++◌, map, vec_items, sym, refl, ap, ◌∙◌, arith}
+use Rattle.std.proofs.Common.{◌≡◌, ℕ, Bool, List, ap₂, ◌+◌, Some, None, [], ◌++◌, map, vec_items, sym, refl, ap, ◌∙◌, arith}
 use Rattle.std.proofs.lemmas.List.{nil_from_length, append-nil}
 use Rattle.std.proofs.lemmas.Result.{err_from_is_err_and}
 use Rattle.goals.specs.declared.catalogue_fault.CatalogueFault.TheVariants.{Shape}
+use Rattle.std.specs.List.{list_any}
+use Rattle.std.specs.Str.{bytes_eq}
+use Rattle.goals.specs.declared.predicate.Predicate.{Predicate}
 use Rattle.goals.specs.Bytes.{byte_at}
 use Rattle.goals.specs.CatalogueRules.{sound_predicates, taken}
 use Rattle.goals.specs.Vocabulary.{name_of}
 use Rattle.goals.specs.Entries.{predicate_text}
-use Rattle.goals.proofs.PredicateSteps.{left_start, left_none, sound_none, table_more, test-more, test-taken, test-bad}
+use Rattle.goals.proofs.PredicateSteps.{taken-map, left_start, left_none, sound_none, table_more, test-more, test-taken, test-bad}
 use Rattle.goals.proofs.read_catalogue.read_predicates.Goals as goal
+
+-- what the look for the name tells
+named_before : (p : Predicate) (ps qs : List Predicate) (b : List ℕ) (v : Bool) → qs ≡ ps → b ≡ name_of p → v ≡ list_any (λ q. bytes_eq (name_of q) b) qs → taken (name_of p) (map predicate_text ps) ≡ v
+named_before p ps qs b v eq eb ev = sym (ev ∙ taken-map b qs ∙ ap₂ (λ x xs. taken x (map predicate_text xs)) eb eq)
 
 pub loop-init : goal.loop-init
 loop-init c =
@@ -36,7 +43,7 @@ returns-then-is_taken c =
       refl,
       c.loop.invariant.test
           ∙ test-taken c.args.file.now c.args.count c.loop.counter c.loop.at _ (vec_items c.loop.predicates) c.in_ok-predicate.predicate c.loop-test.true refl says.0
-          (ap (λ l. taken (name_of c.in_ok-predicate.predicate) (map predicate_text l)) (sym c.deref.ensures.value) ∙ sym c.if-is_taken.ensures),
+          (named_before c.in_ok-predicate.predicate (vec_items c.loop.predicates) _ _ _ c.deref.ensures.value c.letters.ensures c.if-is_taken.ensures),
     )
 
 pub loop-preserved : goal.loop-preserved
@@ -51,7 +58,7 @@ loop-preserved c =
           rw items
           (c.loop.invariant.test
           ∙ test-more c.args.file.now c.args.count c.loop.counter c.loop.at _ (vec_items c.loop.predicates) c.in_ok-predicate.predicate c.loop-test.true next says.0 says.1
-          (ap (λ l. taken (name_of c.in_ok-predicate.predicate) (map predicate_text l)) (sym c.deref.ensures.value) ∙ sym c.if-is_taken.ensures));
+          (named_before c.in_ok-predicate.predicate (vec_items c.loop.predicates) _ _ _ c.deref.ensures.value c.letters.ensures c.if-is_taken.ensures));
       count = omega arith;
       room = omega arith;
       near = omega (arith, says.2);

@@ -9,8 +9,8 @@ use Rattle.goals.proofs.read_operation.EntryReader.entries.Given as goal
 -- the entries read so far are those of the file, sound and within the bounds
 abbrev pub invariant-loop-k : goal.invariant-loop-k
 invariant-loop-k l = record {
-  texts : map entry_text (take l.k l.items) ≡ entries_at l.self.operations.file.now l.k l.at;
+  texts : map entry_text (take l.k l.item-items) ≡ entries_at l.self.operations.file.now l.k l.at;
   sound : sound_each l.self.needs l.self.operations.ids (known l.self.operations) l.self.parameters (entries_at l.self.operations.file.now l.k l.at) ≡ true;
-  inside : entries_inside l.self.operations.ids l.self.parameters (take l.k l.items) ≡ true;
-  whole : length l.items ≡ 6;
+  whole : length l.item-items ≡ l.count;
+  inside : entries_inside l.self.operations.ids l.self.parameters (take l.k l.item-items) ≡ true;
 }

@@ -1,11 +1,12 @@
 -- What each way through the reading of a list of entries says, over plain values.
 use Rattle.std.proofs.Common.{◌≡◌, ℕ, zero, suc, ◌+◌, ◌*◌, ◌<◌, ◌≤◌, Bool, true, false, leb, List, [], ◌∷◌, ◌++◌, map, length, take, set, sym, refl, ap, ◌∙◌, arith}
 use Rattle.std.proofs.lemmas.List.{take_more_set, map_push}
-use Rattle.std.proofs.lemmas.Bool.{and_left, and_right, and_from, lt-leb, le-leb, and_parts}
+use Rattle.std.proofs.lemmas.Bool.{and_left, and_right, and_from, lt-leb, le-leb}
 use Rattle.goals.specs.declared.operation.Entry.{Entry}
-use Rattle.goals.specs.Sections.{PredicateText, EntryText, entry_at, entries_at}
+use Rattle.goals.specs.Sections.{PredicateText, entry_at, entries_at}
 use Rattle.goals.specs.CatalogueRules.{sound_entry, sound_each, sound_entries}
 use Rattle.goals.specs.Entries.{entry_text}
+use Rattle.goals.proofs.BoundSteps.{all-push}
 
 -- lists of entries
 
@@ -23,24 +24,13 @@ entries-more file (suc k) at =
     (entries-more file k (at + 3) ∙ ap (λ n. entries_at file k (at + 3) ++ entry_at file n ∷ []) (let e : at + 3 + 3 * k ≡ at + 3 * suc k = omega arith in e))
 
 module _ (need : Bool) (ids : ℕ) (ps : List PredicateText) (parameters : ℕ) where
-  -- the entries read so far are sound with one more
-  each-push : (es : List EntryText) (e : EntryText) → sound_each need ids ps parameters es ≡ true → sound_entry need ids ps parameters e ≡ true →
-      sound_each need ids ps parameters (es ++ e ∷ []) ≡ true
-  unfolding sound_each
-  each-push [] e h s = and_from _ _ s refl
-  each-push (x ∷ es) e h s = let p = and_parts (sound_entry need ids ps parameters x) _ h in and_from _ _ p.0 (each-push es e p.1 s)
-
   pub each_more : (file : List ℕ) (k at : ℕ) → sound_each need ids ps parameters (entries_at file k at) ≡ true → sound_entry need ids ps parameters (entry_at file (at + 3 * k)) ≡ true →
       sound_each need ids ps parameters (entries_at file (k + 1) at) ≡ true
-  each_more file k at h s = ap (sound_each need ids ps parameters) (entries-more file k at) ∙ each-push (entries_at file k at) (entry_at file (at + 3 * k)) h s
-
-  pub each_none : (file : List ℕ) (at : ℕ) → sound_each need ids ps parameters (entries_at file 0 at) ≡ true
-  unfolding entries_at sound_each
-  each_none file at = refl
+  each_more file k at h s = ap (sound_each need ids ps parameters) (entries-more file k at) ∙ all-push (sound_entry need ids ps parameters) (entries_at file k at) (entry_at file (at + 3 * k)) h s
 
   -- an entry at fault
   each-bad : (file : List ℕ) (n k at : ℕ) → k < n → sound_entry need ids ps parameters (entry_at file (at + 3 * k)) ≡ false → sound_each need ids ps parameters (entries_at file n at) ≡ false
-  unfolding entries_at sound_each
+  unfolding entries_at
   each-bad file zero k at l h = absurd (omega arith)
   each-bad file (suc n) zero at l h =
       and_left _ _ (ap (λ m. sound_entry need ids ps parameters (entry_at file m)) (let e : at ≡ at + 3 * 0 = omega arith in e) ∙ h)
@@ -64,7 +54,3 @@ texts_more items k x file at l e h =
     ap (map entry_text) (take_more_set items k x l)
     ∙ (map_push entry_text (take k items) x
     ∙ (ap (λ t. t ++ entry_text x ∷ []) e ∙ (ap (λ t. entries_at file k at ++ t ∷ []) h ∙ sym (entries-more file k at))))
-
-pub no_entries : (file : List ℕ) (at : ℕ) → [] ≡ entries_at file 0 at
-unfolding entries_at
-no_entries file at = refl

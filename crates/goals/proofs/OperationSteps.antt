@@ -2,13 +2,13 @@
 use Rattle.std.proofs.Common.{◌≡◌, ℕ, zero, suc, ◌+◌, ◌-◌, ◌*◌, ◌<◌, ◌≤◌, true, false, List, [], ◌∷◌, ◌++◌, map, length, Some, sym, refl, ap, ◌∙◌, subst, arith, MatchOption}
 use Rattle.std.specs.List.{slice_get}
 use Rattle.std.proofs.lemmas.List.{append_assoc, map_push, length-map}
-use Rattle.std.proofs.lemmas.Bool.{and_from, and_parts}
 use Rattle.goals.specs.declared.operation.Operation.{Operation}
 use Rattle.goals.specs.Bytes.{byte_at}
 use Rattle.goals.specs.Sections.{PredicateText, OperationText, operation_at, operations_from}
 use Rattle.goals.specs.CatalogueRules.{sound_operation}
 use Rattle.goals.specs.CatalogueMeaning.{sound_operations, AtFault}
 use Rattle.goals.specs.Entries.{operation_text}
+use Rattle.goals.proofs.BoundSteps.{all-push}
 
 -- the place behind an operation
 abbrev behind : List ℕ → ℕ → ℕ
@@ -35,22 +35,11 @@ operations_table_more file n k at next items o l e q =
     ∙ (sym (append_assoc (map operation_text items) (operation_text o ∷ []) (operations_from file (n - (k + 1)) next))
     ∙ ap (λ t. t ++ operations_from file (n - (k + 1)) next) (sym (map_push operation_text items o)))
 
-sound-push : (ids : ℕ) (ps : List PredicateText) (os : List OperationText) (o : OperationText) → sound_operations ids ps os ≡ true → sound_operation ids ps o ≡ true →
-    sound_operations ids ps (os ++ o ∷ []) ≡ true
-unfolding sound_operations
-sound-push ids ps [] o h s = and_from _ _ s refl
-sound-push ids ps (x ∷ xs) o h s =
-    let p = and_parts (sound_operation ids ps x) _ h in and_from _ _ p.0 (sound-push ids ps xs o p.1 s)
-
 pub operations-test-more : (ids : ℕ) (ps : List PredicateText) (items : List Operation) (o : Operation) (x : OperationText) → operation_text o ≡ x →
     sound_operations ids ps (map operation_text items) ≡ true → sound_operation ids ps x ≡ true → sound_operations ids ps (map operation_text (items ++ o ∷ [])) ≡ true
 operations-test-more ids ps items o x q h s =
     ap (sound_operations ids ps) (map_push operation_text items o)
-    ∙ sound-push ids ps (map operation_text items) (operation_text o) h (ap (sound_operation ids ps) q ∙ s)
-
-pub no_operations_lem : (ids : ℕ) (ps : List PredicateText) → sound_operations ids ps [] ≡ true
-unfolding sound_operations
-no_operations_lem ids ps = refl
+    ∙ all-push (sound_operation ids ps) (map operation_text items) (operation_text o) h (ap (sound_operation ids ps) q ∙ s)
 
 nth_behind : {X : Type 0} (xs : List X) (y : X) (ys : List X) (k : ℕ) → length xs ≡ k → slice_get (xs ++ y ∷ ys) k ≡ Some y
 nth_behind [] y ys zero e = refl

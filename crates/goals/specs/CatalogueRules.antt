@@ -49,9 +49,8 @@ sound_entry need ids ps parameters e =
     && (sound_term (nat_le 1 (places_in ps (predicate_number need e.predicate))) ids parameters e.first
     && sound_term (nat_le 2 (places_in ps (predicate_number need e.predicate))) ids parameters e.second)
 
-unfoldable pub sound_each : Bool → ℕ → List PredicateText → ℕ → List EntryText → Bool
-sound_each need ids ps parameters [] = true
-sound_each need ids ps parameters (e ∷ es) = sound_entry need ids ps parameters e && sound_each need ids ps parameters es
+abbrev pub sound_each : Bool → ℕ → List PredicateText → ℕ → List EntryText → Bool
+sound_each need ids ps parameters es = list_all (sound_entry need ids ps parameters) es
 
 -- at most six entries of a kind
 abbrev pub sound_entries : Bool → ℕ → List PredicateText → ℕ → List EntryText → Bool

@@ -1,12 +1,13 @@
-use Rattle.std.proofs.Common.{◌≡◌, None, Some, [], ◌++◌, map, vec_items, sym, ap, ◌∙◌, arith}
+use Rattle.std.proofs.Common.{◌≡◌, None, Some, [], ◌++◌, map, vec_items, sym, refl, ap, ◌∙◌, arith}
 use Rattle.std.proofs.lemmas.List.{nil_from_length, append-nil}
 use Rattle.std.proofs.lemmas.Result.{err_from_is_err_and}
 use Rattle.goals.specs.declared.catalogue_fault.CatalogueFault.TheVariants.{Operation}
 use Rattle.goals.specs.CatalogueMeaning.{operations_of, sound_operations}
 use Rattle.goals.specs.EntryReading.{known}
 use Rattle.goals.specs.Entries.{operation_text}
-use Rattle.goals.proofs.BoundSteps.{no_operations-inside, operations-inside-push}
-use Rattle.goals.proofs.OperationSteps.{rest-start, rest-none, operations_table_more, operations-test-more, no_operations_lem, operation-at-fault}
+use Rattle.goals.specs.EntryBounds.{operation_inside}
+use Rattle.goals.proofs.BoundSteps.{all-push}
+use Rattle.goals.proofs.OperationSteps.{rest-start, rest-none, operations_table_more, operations-test-more, operation-at-fault}
 use Rattle.goals.proofs.read_catalogue.read_operations.Goals as goal
 
 pub loop-k-init : goal.loop-k-init
@@ -14,8 +15,8 @@ loop-k-init c =
     let none : vec_items c.args.operations.now ≡ [] = nil_from_length (vec_items c.args.operations.now) (sym c.args.operations.now.ok.0 ∙ c.requires.none) in
     record {
       texts = rw none (rest-start c.args.reader.file.now c.args.frame.operations c.args.frame.operations_at);
-      sound = rw none (no_operations_lem c.args.reader.ids (known c.args.reader));
-      inside = rw none (no_operations-inside c.args.reader.ids);
+      sound = rw none refl;
+      inside = rw none refl;
       count = c.requires.none;
       room = c.requires.room;
       near = omega arith;
@@ -40,7 +41,7 @@ loop-k-preserved c =
     record {
       texts = rw items (c.loop-k.invariant.texts ∙ operations_table_more c.args.reader.file.now c.args.frame.operations c.loop-k.k c.loop-k.at _ (vec_items c.loop-k.operations) c.in_ok-operation.operation c.loop-k-test.true (omega arith) says.0);
       sound = rw items (operations-test-more c.args.reader.ids (known c.args.reader) (vec_items c.loop-k.operations) c.in_ok-operation.operation _ says.0 c.loop-k.invariant.sound says.1);
-      inside = rw items (operations-inside-push c.args.reader.ids (vec_items c.loop-k.operations) c.in_ok-operation.operation c.loop-k.invariant.inside says.2);
+      inside = rw items (all-push (operation_inside c.args.reader.ids) (vec_items c.loop-k.operations) c.in_ok-operation.operation c.loop-k.invariant.inside says.2);
       count = omega arith;
       room = omega arith;
       near = omega arith;

@@ -1,11 +1,11 @@
-use Rattle.std.proofs.Common.{◌≡◌, ◌∙◌, ℕ, List, ◌++◌, length, ap, map, take, length-set, arith}
+use Rattle.std.proofs.Common.{◌≡◌, ◌∙◌, ℕ, List, ◌++◌, length, refl, ap, map, take, length-set, arith}
 use Rattle.goals.specs.Entries.{entry_text}
 use Rattle.goals.specs.Sections.{entries_at}
 use Rattle.goals.specs.EntryBounds.{entries_inside}
 use Rattle.std.proofs.lemmas.List.{length-take-le, take-append-le}
 use Rattle.goals.specs.EntryReading.{known}
-use Rattle.goals.proofs.EntrySteps.{entries_too_many, entries-bad, entries_good, each_more, each_none, no_entries, texts_more}
-use Rattle.goals.proofs.BoundSteps.{no_inside, inside-more}
+use Rattle.goals.proofs.EntrySteps.{entries_too_many, entries-bad, entries_good, each_more, texts_more}
+use Rattle.goals.proofs.BoundSteps.{inside-more}
 use Rattle.goals.proofs.read_operation.EntryReader.entries.Goals as goal
 
 pub returns-then-count-gt-MOST_ENTRIES : goal.returns-then-count-gt-MOST_ENTRIES
@@ -13,12 +13,8 @@ returns-then-count-gt-MOST_ENTRIES c =
     entries_too_many c.args.self.needs c.args.self.operations.ids (known c.args.self.operations) c.args.self.parameters c.args.self.operations.file.now c.args.count c.args.at (omega arith)
 
 pub loop-k-init : goal.loop-k-init
-loop-k-init c = record {
-  texts = no_entries c.args.self.operations.file.now c.args.at;
-  sound = each_none c.args.self.needs c.args.self.operations.ids (known c.args.self.operations) c.args.self.parameters c.args.self.operations.file.now c.args.at;
-  whole = length-take-le c.from-count.result _ (omega arith);
-  inside = no_inside c.args.self.operations.ids c.args.self.parameters;
-}
+unfolding entries_at
+loop-k-init c = record { texts = refl; sound = refl; whole = length-take-le c.from-count.result _ (omega arith); inside = refl }
 
 pub returns-in_err-item : goal.returns-in_err-item
 returns-in_err-item c =

@@ -17,6 +17,7 @@ all-push test xs x h g = list_all-append test xs (x ∷ []) ∙ and_from _ _ h (
 -- the entries below a place and the one written there
 pub inside-more : (ids parameters : ℕ) (es : List Entry) (k : ℕ) (e : Entry) → k < length es → entries_inside ids parameters (take k es) ≡ true → entry_inside ids parameters e ≡ true
     → entries_inside ids parameters (take (k + 1) (set es k e)) ≡ true
+unfolding entries_inside
 inside-more ids parameters es k e lt h g =
     ap (entries_inside ids parameters) (take_more_set es k e lt) ∙ all-push (entry_inside ids parameters) (take k es) e h g
 

@@ -16,7 +16,7 @@ abbrev pub entry_inside : ℕ → ℕ → Entry → Bool
 entry_inside ids parameters e =
     nat_lt e.predicate 16 && (term_inside ids parameters e.first && term_inside ids parameters e.second)
 
-abbrev pub entries_inside : ℕ → ℕ → List Entry → Bool
+unfoldable pub entries_inside : ℕ → ℕ → List Entry → Bool
 entries_inside ids parameters es = list_all (entry_inside ids parameters) es
 
 unfoldable pub operation_inside : ℕ → Operation → Bool

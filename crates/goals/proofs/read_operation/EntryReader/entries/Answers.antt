@@ -13,7 +13,7 @@ returns-then-count-gt-MOST_ENTRIES c =
     entries_too_many c.args.self.needs c.args.self.operations.ids (known c.args.self.operations) c.args.self.parameters c.args.self.operations.file.now c.args.count c.args.at (omega arith)
 
 pub loop-k-init : goal.loop-k-init
-unfolding entries_at
+unfolding entries_at entries_inside
 loop-k-init c = record { texts = refl; sound = refl; whole = length-take-le c.from-count.result _ (omega arith); inside = refl }
 
 pub returns-in_err-item : goal.returns-in_err-item

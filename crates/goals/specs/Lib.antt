@@ -27,6 +27,5 @@ pub mod GoalTable
 pub mod GoalClaims
 pub mod JobText
 pub mod JobReading
-pub mod Placing
 pub mod JobView
 pub mod NodeTable

@@ -1,7 +1,6 @@
 ghost use Rattle.std.specs.Prelude.{◌≡◌, ◌-◌, ◌≤◌, length, take, drop, Ok, Err};
 ghost use Rattle.goals.specs.Frame.{framed};
 ghost use Rattle.goals.specs.JobReading.{FramedSays, BothSays, JobSays, FillSays};
-ghost use Rattle.goals.specs.Placing.{placed_of};
 
 use crate::file_fault::{FileFault, PlacedFault};
 use crate::fill_fault::FillFault;
@@ -20,15 +19,6 @@ pub(crate) struct FramedJob {
     pub job: Job,
 }
 
-// The bytes from one place to another.
-fn part(file: &[u8], start: usize, end: usize) -> &[u8]
-    requires ordered { start ≤ end }
-    requires inside { end ≤ length file.now }
-    ensures { result.now ≡ take (end - start) (drop start file.now) }
-{
-    &file[start..end]
-}
-
 // The job of a framed file: its catalogue, then its goal.
 fn job_of(file: &[u8], frame: Frame, room: JobRoom) -> Result<Job, JobFault>
     requires { Ok frame ≡ framed file.now }
@@ -36,7 +26,7 @@ fn job_of(file: &[u8], frame: Frame, room: JobRoom) -> Result<Job, JobFault>
 {
     let JobRoom { catalogue, goal } = room;
     let catalogue = read_catalogue(file, frame, catalogue)?;
-    let text = part(file, frame.goal_at, frame.steps_at);
+    let text = &file[frame.goal_at..frame.steps_at];
     let goal = read_goal(
         text,
         u16::from(catalogue.ids),
@@ -46,21 +36,12 @@ fn job_of(file: &[u8], frame: Frame, room: JobRoom) -> Result<Job, JobFault>
     Ok(Job { catalogue, goal })
 }
 
-// A fault goes on with the place at which the goal text begins.
-fn placed(res: Result<Job, JobFault>, goal_at: usize) -> Result<Job, PlacedFault>
-    ensures { result ≡ placed_of res goal_at }
-{
-    match res {
-        Ok(job) => Ok(job),
-        Err(fault) => Err(PlacedFault { fault, goal_at }),
-    }
-}
-
 fn read_both(file: &[u8], room: JobRoom) -> Result<FramedJob, FileFault>
     ensures { BothSays file.now result }
 {
     let frame = read_frame(file)?;
-    let job = placed(job_of(file, frame, room), frame.goal_at)?;
+    let goal_at = frame.goal_at;
+    let job = job_of(file, frame, room).map_err(|fault| PlacedFault { fault, goal_at })?;
     Ok(FramedJob { frame, job })
 }
 
@@ -68,8 +49,7 @@ fn read_both(file: &[u8], room: JobRoom) -> Result<FramedJob, FileFault>
 pub fn read_job(file: &[u8], room: JobRoom) -> Result<Job, FileFault>
     ensures { JobSays file.now result }
 {
-    let FramedJob { frame: _, job } = read_both(file, room)?;
-    Ok(job)
+    Ok(read_both(file, room)?.job)
 }
 
 // Reads the job of an edition file and puts every fact of the file into a register, whatever it holds already, or none:

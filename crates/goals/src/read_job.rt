@@ -2,7 +2,7 @@ ghost use Rattle.std.specs.Prelude.{◌≡◌, ◌-◌, ◌≤◌, length, take,
 ghost use Rattle.goals.specs.Frame.{framed};
 ghost use Rattle.goals.specs.JobReading.{FramedSays, BothSays, JobSays, FillSays};
 
-use crate::file_fault::{FileFault, PlacedFault};
+use crate::file_fault::FileFault;
 use crate::fill_fault::FillFault;
 use crate::frame::{Frame, read_frame};
 use crate::job::{Job, JobRoom};
@@ -41,7 +41,7 @@ fn read_both(file: &[u8], room: JobRoom) -> Result<FramedJob, FileFault>
 {
     let frame = read_frame(file)?;
     let goal_at = frame.goal_at;
-    let job = job_of(file, frame, room).map_err(|fault| PlacedFault { fault, goal_at })?;
+    let job = job_of(file, frame, room).map_err(|fault| FileFault::Job(fault, goal_at))?;
     Ok(FramedJob { frame, job })
 }
 

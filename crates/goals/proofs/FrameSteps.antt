@@ -1,6 +1,6 @@
 -- The walk over a file's counts, one predicate or operation at a time.
-use Rattle.std.proofs.Common.{◌≡◌, ℕ, suc, ◌+◌, ◌-◌, ◌*◌, ◌<◌, ◌≤◌, Bool, true, false, cond, ltb, List, length, Ok, Err, Result, sym, refl, ap, ◌∙◌, arith}
-use Rattle.std.proofs.lemmas.Bool.{cond-true, cond-false, lt-ltb, le-ltb, ltb-false}
+use Rattle.std.proofs.Common.{◌≡◌, rules, ℕ, suc, ◌+◌, ◌-◌, ◌*◌, ◌<◌, ◌≤◌, Bool, true, false, cond, ltb, List, length, Ok, Err, Result, sym, refl, ap, ◌∙◌, arith}
+use Rattle.std.proofs.lemmas.Bool.{ltb-false}
 use Rattle.goals.specs.declared.frame.Frame.{Frame}
 use Rattle.goals.specs.declared.file_fault.FrameFault.{FrameFault}
 use Rattle.goals.specs.declared.file_fault.FrameFault.TheVariants.{Mark, Length}
@@ -33,41 +33,10 @@ pub operations-all : (file : List ℕ) (n i at : ℕ) → n ≤ i → operations
 unfolding operations_end
 operations-all file n i at l = ap (λ k. operations_end file k at) (none_left n i l)
 
--- the outcome, case by case
-
-pub framed_unmarked : (file : List ℕ) → marked file ≡ false → ◌≡◌ {A = Result Frame FrameFault} (Err Mark) (framed file)
-unfolding framed
-framed_unmarked file m = sym (cond-false (marked file) _ _ m)
-
-module _ (file : List ℕ) (m : marked file ≡ true) where
-  pub framed-long : 40000 < length file → ◌≡◌ {A = Result Frame FrameFault} (Err (Length 40000)) (framed file)
-  unfolding framed length_checked
-  framed-long l = sym (cond-true (marked file) _ _ m ∙ cond-true (ltb 40000 (length file)) _ _ (lt-ltb _ _ l))
-
-  short : length file ≤ 40000 → framed file ≡ length_checked (length file) (frame_of file)
-  unfolding framed
-  short l = cond-true (marked file) _ _ m
-
-module _ (file : List ℕ) (f : Frame) (m : marked file ≡ true) (e : f ≡ frame_of file) (l : length file ≤ 40000) where
-  within : framed file ≡ length_checked (length file) f
-  within = short file m l ∙ ap (length_checked (length file)) (sym e)
-
-  pub framed_early : length file < f.end → ◌≡◌ {A = Result Frame FrameFault} (Err (Length (length file))) (framed file)
-  unfolding length_checked
-  framed_early h =
-      sym (within ∙ (cond-false (ltb 40000 (length file)) _ _ (le-ltb _ _ l) ∙ cond-true (ltb (length file) f.end) _ _ (lt-ltb _ _ h)))
-
-  pub framed-over : f.end < length file → ◌≡◌ {A = Result Frame FrameFault} (Err (Length f.end)) (framed file)
-  unfolding length_checked
-  framed-over h =
-      sym (within ∙ (cond-false (ltb 40000 (length file)) _ _ (le-ltb _ _ l)
-      ∙ (cond-false (ltb (length file) f.end) _ _ (le-ltb _ _ (omega arith)) ∙ cond-true (ltb f.end (length file)) _ _ (lt-ltb _ _ h))))
-
-  pub framed-whole : f.end ≤ length file → length file ≤ f.end → ◌≡◌ {A = Result Frame FrameFault} (Ok f) (framed file)
-  unfolding length_checked
-  framed-whole g h =
-      sym (within ∙ (cond-false (ltb 40000 (length file)) _ _ (le-ltb _ _ l)
-      ∙ (cond-false (ltb (length file) f.end) _ _ (le-ltb _ _ g) ∙ cond-false (ltb f.end (length file)) _ _ (le-ltb _ _ h))))
+-- a file that its frame fills
+pub framed-whole : (file : List ℕ) (f : Frame) → marked file ≡ true → f ≡ frame_of file → length file ≤ 40000 → f.end ≤ length file → length file ≤ f.end → ◌≡◌ {A = Result Frame FrameFault} (Ok f) (framed file)
+unfolding framed length_checked
+framed-whole file f m e l g h = search rules
 
 -- what an accepted frame tells
 

@@ -9,6 +9,7 @@ pub(crate) fn byte_at(bytes: &[u8], at: usize) -> u8
 }
 
 // The number in two bytes, the high byte first.
+// A place is a plain number here and where entries are read: each function goes a little further on, so no one bound serves all as a type.
 pub(crate) fn word_at(bytes: &[u8], at: usize) -> u16
     requires { at < 1000000 }
     ensures { result ≡ word_at bytes.now at }

@@ -1,5 +1,5 @@
 ghost use Rattle.std.specs.Prelude.{◌≡◌};
-ghost use Rattle.goals.specs.FaultNumbers.{frame_number, file_number, place_in_file};
+ghost use Rattle.goals.specs.FaultNumbers.{frame_number, file_number};
 ghost use Rattle.goals.specs.declared.file_fault.FileFault.TheVariants.{Frame};
 
 use crate::goal_fault::GoalFault;

@@ -1,5 +1,5 @@
-ghost use Rattle.std.specs.Prelude.{◌≡◌, ℕ, ◌+◌, ◌*◌, ◌<◌, ◌≤◌, length};
-ghost use Rattle.goals.specs.Bytes.{byte_at, word_at};
+ghost use Rattle.std.specs.Prelude.{◌≡◌, ◌+◌, ◌*◌, ◌<◌, ◌≤◌, length};
+ghost use Rattle.goals.specs.Bytes.{byte_at};
 ghost use Rattle.goals.specs.Frame.{marked, predicates_end, operations_end, frame_of, framed};
 
 use crate::bytes::{byte_at, word_at};
@@ -25,6 +25,17 @@ pub struct Frame {
     pub goal_at: usize,
     pub steps_at: usize,
     pub end: usize,
+}
+
+// A file with its frame: its sections lie in it, one behind the other.
+#[derive(Clone, Copy)]
+pub(crate) struct FramedFile<'a> {
+    pub bytes: &'a [u8],
+    pub frame: Frame,
+    ghost operations_near: { frame.operations_at ≤ 40000 },
+    ghost goal_first: { frame.goal_at ≤ frame.steps_at },
+    ghost goal_end: { frame.steps_at ≤ length bytes.now },
+    ghost goal_long: { frame.steps_at ≡ frame.goal_at + frame.goal_length },
 }
 
 // Reads the frame: the mark and the version, then the length against the counts.

@@ -1,18 +1,16 @@
-ghost use Rattle.std.specs.Prelude.{◌≡◌, ℕ, ◌+◌, ◌*◌, ◌<◌, ◌≤◌, true, false, List, [], map, length, vec_len, vec_capacity, MatchBool, MatchResult};
+ghost use Rattle.std.specs.Prelude.{◌≡◌, ◌≤◌, true, false, [], map, vec_len, vec_capacity, MatchResult};
 ghost use Rattle.std.specs.List.{list_any};
 ghost use Rattle.std.specs.Str.{bytes_eq};
 ghost use Rattle.goals.specs.Vocabulary.{name_of};
-ghost use Rattle.goals.specs.Sections.{predicates_from, operations_from};
-ghost use Rattle.goals.specs.CatalogueRules.{taken, sound_counts, sound_predicates};
-ghost use Rattle.goals.specs.CatalogueMeaning.{sound_operations, AtFault};
+ghost use Rattle.goals.specs.Sections.{predicates_from};
+ghost use Rattle.goals.specs.CatalogueRules.{sound_counts, sound_predicates};
 ghost use Rattle.goals.specs.CatalogueReading.{CatalogueSays};
 ghost use Rattle.goals.specs.EntryReading.{OperationsSay};
-ghost use Rattle.goals.specs.EntryBounds.{operations_inside};
-ghost use Rattle.goals.specs.Entries.{predicate_text, operation_text};
+ghost use Rattle.goals.specs.Entries.{predicate_text};
 
-use crate::catalogue::{Catalogue, CatalogueRoom};
+use crate::catalogue::{Catalogue, CatalogueRoom, MOST_OPERATIONS, MOST_PREDICATES};
 use crate::catalogue_fault::CatalogueFault;
-use crate::frame::{Frame, PREDICATES_AT, entries};
+use crate::frame::{Frame, FramedFile, PREDICATES_AT, entries};
 use crate::operation::Operation;
 use crate::predicate::Predicate;
 use crate::read_operation::OperationReader;
@@ -84,19 +82,14 @@ fn counts_in_limits(frame: Frame) -> bool
 
 const MOST_IDS: u8 = 128;
 
-const MOST_PREDICATES: u8 = 16;
-
-const MOST_OPERATIONS: u8 = 64;
-
 // Reads the catalogue of a framed file: refused with 1 for its counts, predicates and names, then with 2 for an operation.
 pub(crate) fn read_catalogue(
-    file: &[u8],
-    frame: Frame,
+    file: FramedFile<'_>,
     room: CatalogueRoom,
 ) -> Result<Catalogue, CatalogueFault>
-    requires { frame.operations_at ≤ 40000 }
-    ensures { CatalogueSays file.now frame result }
+    ensures { CatalogueSays file.entry.bytes.now file.entry.frame result }
 {
+    let frame = file.frame;
     if !counts_in_limits(frame) {
         return Err(CatalogueFault::Shape);
     }
@@ -104,9 +97,9 @@ pub(crate) fn read_catalogue(
         mut predicates,
         mut operations,
     } = room;
-    read_predicates(file, frame.predicates, &mut predicates)?;
+    read_predicates(file.bytes, frame.predicates, &mut predicates)?;
     let reader = OperationReader {
-        file,
+        file: file.bytes,
         ids: frame.ids,
         predicates: &predicates,
     };

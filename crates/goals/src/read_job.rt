@@ -1,10 +1,8 @@
-ghost use Rattle.std.specs.Prelude.{◌≡◌, ◌-◌, ◌≤◌, length, take, drop, Ok, Err};
-ghost use Rattle.goals.specs.Frame.{framed};
 ghost use Rattle.goals.specs.JobReading.{FramedSays, BothSays, JobSays, FillSays};
 
 use crate::file_fault::FileFault;
 use crate::fill_fault::FillFault;
-use crate::frame::{Frame, read_frame};
+use crate::frame::{Frame, FramedFile, read_frame};
 use crate::job::{Job, JobRoom};
 use crate::job_fault::JobFault;
 use crate::put_facts::put_facts;
@@ -20,13 +18,12 @@ pub(crate) struct FramedJob {
 }
 
 // The job of a framed file: its catalogue, then its goal.
-fn job_of(file: &[u8], frame: Frame, room: JobRoom) -> Result<Job, JobFault>
-    requires { Ok frame ≡ framed file.now }
-    ensures { FramedSays file.now frame result }
+fn job_of(file: FramedFile<'_>, room: JobRoom) -> Result<Job, JobFault>
+    ensures { FramedSays file.entry.bytes.now file.entry.frame result }
 {
     let JobRoom { catalogue, goal } = room;
-    let catalogue = read_catalogue(file, frame, catalogue)?;
-    let text = &file[frame.goal_at..frame.steps_at];
+    let catalogue = read_catalogue(file, catalogue)?;
+    let text = &file.bytes[file.frame.goal_at..file.frame.steps_at];
     let goal = read_goal(
         text,
         u16::from(catalogue.ids),
@@ -36,12 +33,12 @@ fn job_of(file: &[u8], frame: Frame, room: JobRoom) -> Result<Job, JobFault>
     Ok(Job { catalogue, goal })
 }
 
-fn read_both(file: &[u8], room: JobRoom) -> Result<FramedJob, FileFault>
-    ensures { BothSays file.now result }
+fn read_both(bytes: &[u8], room: JobRoom) -> Result<FramedJob, FileFault>
+    ensures { BothSays bytes.now result }
 {
-    let frame = read_frame(file)?;
-    let goal_at = frame.goal_at;
-    let job = job_of(file, frame, room).map_err(|fault| FileFault::Job(fault, goal_at))?;
+    let frame = read_frame(bytes)?;
+    let file = FramedFile { bytes, frame };
+    let job = job_of(file, room).map_err(|fault| FileFault::Job(fault, frame.goal_at))?;
     Ok(FramedJob { frame, job })
 }
 

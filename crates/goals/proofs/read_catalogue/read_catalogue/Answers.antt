@@ -11,9 +11,9 @@ use Rattle.goals.proofs.read_catalogue.read_catalogue.Goals as goal
 pub invariant_of-reader : goal.invariant_of-reader
 invariant_of-reader c =
     let ps = c.read_predicates.new.predicates in
-    let limits = counts_in_limits_lem c.args.frame.ids c.args.frame.predicates c.args.frame.operations (sym c.if-not-counts_in_limits.ensures) in
-    let n : length (vec_items ps) ≡ c.args.frame.predicates
-    = sym (length-map (vec_items ps) predicate_text) ∙ (ap length c.in_ok-read_predicates.ensures.0 ∙ predicates-count c.args.file.now c.args.frame.predicates 14) in
+    let limits = counts_in_limits_lem c.args.file.frame.ids c.args.file.frame.predicates c.args.file.frame.operations (sym c.if-not-counts_in_limits.ensures) in
+    let n : length (vec_items ps) ≡ c.args.file.frame.predicates
+    = sym (length-map (vec_items ps) predicate_text) ∙ (ap length c.in_ok-read_predicates.ensures.0 ∙ predicates-count c.args.file.bytes.now c.args.file.frame.predicates 14) in
     record { some = limits.0; few = omega (arith, ap length c.deref.ensures.value, n, limits.1) }
 
 pub invariant_of-result : goal.invariant_of-result
@@ -22,13 +22,13 @@ invariant_of-result c =
     let os = c.read_operations.new.operations in
     let p = c.in_ok-read_predicates.ensures in
     let o = rw c.deref.ensures.value at c.in_ok-read_operations.ensures in
-    let np : vec_len ps ≡ c.args.frame.predicates
-    = ps.ok.0 ∙ (sym (length-map (vec_items ps) predicate_text) ∙ (ap length p.0 ∙ predicates-count c.args.file.now c.args.frame.predicates 14)) in
-    let no : vec_len os ≡ c.args.frame.operations
-    = os.ok.0 ∙ (sym (length-map (vec_items os) operation_text) ∙ (ap length o.0 ∙ operations-count c.args.file.now c.args.frame.operations c.args.frame.operations_at)) in
+    let np : vec_len ps ≡ c.args.file.frame.predicates
+    = ps.ok.0 ∙ (sym (length-map (vec_items ps) predicate_text) ∙ (ap length p.0 ∙ predicates-count c.args.file.bytes.now c.args.file.frame.predicates 14)) in
+    let no : vec_len os ≡ c.args.file.frame.operations
+    = os.ok.0 ∙ (sym (length-map (vec_items os) operation_text) ∙ (ap length o.0 ∙ operations-count c.args.file.bytes.now c.args.file.frame.operations c.args.file.frame.operations_at)) in
     record {
-      counts = ap₂ (sound_counts c.args.frame.ids) np no ∙ sym c.if-not-counts_in_limits.ensures;
+      counts = ap₂ (sound_counts c.args.file.frame.ids) np no ∙ sym c.if-not-counts_in_limits.ensures;
       names = ap (sound_predicates []) p.0 ∙ p.1;
-      rules = ap (sound_operations c.args.frame.ids (map predicate_text (vec_items ps))) o.0 ∙ o.1;
+      rules = ap (sound_operations c.args.file.frame.ids (map predicate_text (vec_items ps))) o.0 ∙ o.1;
       bounds = o.2;
     }

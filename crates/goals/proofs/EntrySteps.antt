@@ -1,7 +1,7 @@
 -- What each way through the reading of a list of entries says, over plain values.
-use Rattle.std.proofs.Common.{◌≡◌, ℕ, zero, suc, ◌+◌, ◌*◌, ◌<◌, ◌≤◌, Bool, true, false, leb, List, [], ◌∷◌, ◌++◌, map, length, take, set, sym, refl, ap, ◌∙◌, arith}
+use Rattle.std.proofs.Common.{◌≡◌, ℕ, zero, suc, ◌+◌, ◌*◌, ◌<◌, Bool, true, false, leb, List, [], ◌∷◌, ◌++◌, map, length, take, set, sym, refl, ap, ◌∙◌, arith}
 use Rattle.std.proofs.lemmas.List.{take_more_set, map_push}
-use Rattle.std.proofs.lemmas.Bool.{and_left, and_right, and_from, lt-leb, le-leb}
+use Rattle.std.proofs.lemmas.Bool.{and_left, and_right, lt-leb}
 use Rattle.goals.specs.declared.operation.Entry.{Entry}
 use Rattle.goals.specs.Sections.{PredicateText, entry_at, entries_at}
 use Rattle.goals.specs.CatalogueRules.{sound_entry, sound_each, sound_entries}
@@ -43,9 +43,6 @@ module _ (need : Bool) (ids : ℕ) (ps : List PredicateText) (parameters : ℕ) 
 
   pub entries-bad : (file : List ℕ) (n k at : ℕ) → k < n → sound_entry need ids ps parameters (entry_at file (at + 3 * k)) ≡ false → sound_entries need ids ps parameters (entries_at file n at) ≡ false
   entries-bad file n k at l h = and_right (leb (length (entries_at file n at)) 6) _ (each-bad file n k at l h)
-
-  pub entries_good : (file : List ℕ) (n at : ℕ) → n ≤ 6 → sound_each need ids ps parameters (entries_at file n at) ≡ true → sound_entries need ids ps parameters (entries_at file n at) ≡ true
-  entries_good file n at l h = and_from _ _ (le-leb (length (entries_at file n at)) 6 (omega (arith, entries-count file n at))) h
 
 -- one entry more in the table
 pub texts_more : (items : List Entry) (k : ℕ) (x : Entry) (file : List ℕ) (at : ℕ) → k < length items → map entry_text (take k items) ≡ entries_at file k at →

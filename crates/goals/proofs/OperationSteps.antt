@@ -25,9 +25,6 @@ pub rest-none : (file : List ℕ) (n k at : ℕ) → n ≤ k → operations_from
 unfolding operations_from
 rest-none file n k at l = ap (λ m. operations_from file m at) (let q : n - k ≡ 0 = omega arith in q)
 
-pub rest-start : (file : List ℕ) (n at : ℕ) → operations_from file n at ≡ operations_from file (n - 0) at
-rest-start file n at = ap (λ m. operations_from file m at) (let q : n ≡ n - 0 = omega arith in q)
-
 pub operations_table_more : (file : List ℕ) (n k at next : ℕ) (items : List Operation) (o : Operation) → k < n → next ≡ behind file at → operation_text o ≡ operation_at file at →
     map operation_text items ++ operations_from file (n - k) at ≡ map operation_text (items ++ o ∷ []) ++ operations_from file (n - (k + 1)) next
 operations_table_more file n k at next items o l e q =

@@ -1,5 +1,5 @@
 -- What each way through the reading of a predicate and of all predicates says, over plain values.
-use Rattle.std.proofs.Common.{◌≡◌, ℕ, zero, suc, ◌+◌, ◌-◌, ◌<◌, ◌≤◌, Bool, true, false, not, ◌&&◌, ◌||◌, leb, List, [], ◌∷◌, ◌++◌, map, length, take, drop, sym, refl, ap, ◌∙◌, add-one, drop-cons, arith}
+use Rattle.std.proofs.Common.{◌≡◌, ℕ, zero, suc, ◌+◌, ◌-◌, ◌<◌, ◌≤◌, true, false, not, ◌&&◌, ◌||◌, List, [], ◌∷◌, ◌++◌, map, length, take, drop, sym, refl, ap, ◌∙◌, add-one, drop-cons, arith}
 use Rattle.std.specs.List.{slice_range, list_any}
 use Rattle.std.proofs.lemmas.List.{append_assoc, map_push, get_or_past}
 use Rattle.std.proofs.lemmas.List.Folds.{list_all-append}
@@ -50,23 +50,6 @@ letters_past file (suc k) at z l =
 
 -- one predicate
 
--- the name's length in the rule is the length byte
-limits_as : (p n m : ℕ) (a : Bool) → m ≡ n → (leb p 2 && (leb 1 n && (leb n 16 && a))) ≡ (leb p 2 && (leb 1 m && (leb m 16 && a)))
-limits_as p n m a e = ap (λ t. leb p 2 && (leb 1 t && (leb t 16 && a))) (sym e)
-
-regroup : (p x y a : Bool) → (p && (x && (y && a))) ≡ ((p && (x && y)) && a)
-regroup true true y a = refl
-regroup true false y a = refl
-regroup false x y a = refl
-
--- a predicate is sound exactly when its numbers are in their limits and its name has small letters only
-pub predicate-sound : (file : List ℕ) (at n : ℕ) → n ≡ byte_at file (at + 1) →
-    sound_predicate (predicate_at file at) ≡ ((leb (byte_at file at) 2 && (leb 1 n && leb n 16)) && all_letters (bytes_at file n (at + 2)))
-predicate-sound file at n e =
-    limits_as (byte_at file at) (length (bytes_at file (byte_at file (at + 1)) (at + 2))) n (all_letters (bytes_at file (byte_at file (at + 1)) (at + 2))) (e ∙ sym (bytes_count file (byte_at file (at + 1)) (at + 2)))
-    ∙ (regroup (leb (byte_at file at) 2) (leb 1 n) (leb n 16) (all_letters (bytes_at file (byte_at file (at + 1)) (at + 2)))
-    ∙ ap (λ t. (leb (byte_at file at) 2 && (leb 1 n && leb n 16)) && all_letters (bytes_at file t (at + 2))) (sym e))
-
 pub predicate_back : (x : PredicateText) (places : ℕ) (name : List ℕ) → places ≡ x.places → name ≡ x.name →
     ◌≡◌ {A = PredicateText} (record { places = places; name = name }) x
 predicate_back x places name ep en = λ i. record { places = ep i; name = en i }
@@ -95,9 +78,6 @@ left_more file n k at next l e =
 pub left_none : (file : List ℕ) (n k at : ℕ) → n ≤ k → predicates_from file (n - k) at ≡ []
 unfolding predicates_from
 left_none file n k at l = ap (λ m. predicates_from file m at) (let q : n - k ≡ 0 = omega arith in q)
-
-pub left_start : (file : List ℕ) (n at : ℕ) → predicates_from file n at ≡ predicates_from file (n - 0) at
-left_start file n at = ap (λ m. predicates_from file m at) (let q : n ≡ n - 0 = omega arith in q)
 
 pub sound_none : (ps : List PredicateText) → sound_predicates ps [] ≡ true
 unfolding sound_predicates

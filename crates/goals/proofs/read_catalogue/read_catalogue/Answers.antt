@@ -10,11 +10,8 @@ use Rattle.goals.proofs.read_catalogue.read_catalogue.Goals as goal
 
 pub invariant_of-reader : goal.invariant_of-reader
 invariant_of-reader c =
-    let ps = c.read_predicates.new.predicates in
     let limits = counts_in_limits_lem c.args.file.frame.ids c.args.file.frame.predicates c.args.file.frame.operations (sym c.if-not-counts_in_limits.ensures) in
-    let n : length (vec_items ps) ≡ c.args.file.frame.predicates
-    = sym (length-map (vec_items ps) predicate_text) ∙ (ap length c.in_ok-read_predicates.ensures.0 ∙ predicates-count c.args.file.bytes.now c.args.file.frame.predicates 14) in
-    record { some = limits.0; few = omega (arith, ap length c.deref.ensures.value, n, limits.1) }
+    grind (arith, length-map, predicates-count)
 
 pub invariant_of-result : goal.invariant_of-result
 invariant_of-result c =

@@ -1,11 +1,11 @@
-use Rattle.std.proofs.Common.{sym}
+use Rattle.std.proofs.Common.{rules, sym}
 use Rattle.std.proofs.lemmas.Result.{err_from_is_err_and}
 use Rattle.goals.proofs.FrameSteps.{facts_near}
 use Rattle.goals.proofs.JobSteps.{shape-of-file, operations-of-file}
 use Rattle.goals.proofs.read_job.fill.Goals as goal
 
 pub put_facts-requires : goal.put_facts-requires
-put_facts-requires g c = facts_near c.args.file.now c.in_ok-frame.field-0.frame c.in_ok-frame.ensures.0
+put_facts-requires g c = search (rules, facts_near)
 
 pub returns-in_err-put_facts : goal.returns-in_err-put_facts
 returns-in_err-put_facts g c =

@@ -1,8 +1,9 @@
 -- How the tests of bounds grow with the lists that are read, and what they say of one item.
-use Rattle.std.proofs.Common.{◌≡◌, ℕ, zero, suc, ◌+◌, ◌<◌, ◌≤◌, Bool, true, ◌&&◌, leb, List, [], ◌∷◌, ◌++◌, length, get_or, take, set, Some, None, refl, ap, ◌∙◌, subst, arith}
+use Rattle.std.proofs.Common.{◌≡◌, ℕ, zero, suc, ◌+◌, ◌<◌, ◌≤◌, Bool, true, List, [], ◌∷◌, ◌++◌, length, get_or, take, set, Some, None, refl, ap, ◌∙◌, subst, arith}
 use Rattle.std.specs.List.{list_all, slice_get}
 use Rattle.std.proofs.lemmas.List.Folds.{list_all-append}
-use Rattle.std.proofs.lemmas.Bool.{and_parts, and_from, leb-true}
+use Rattle.std.proofs.lemmas.Bool.{and_parts, and_from}
+use Rattle.std.proofs.lemmas.Bool.Decides.{nat_tests}
 use Rattle.std.proofs.lemmas.List.{length-take-le, get_or-take, take_more_set}
 use Rattle.std.proofs.lemmas.Option.{slice_get-get_or, slice_get_past}
 use Rattle.goals.specs.declared.operation.Operation.{Operation}
@@ -40,10 +41,4 @@ nth_behind xs n i h le = slice_get_past (take n xs) i (omega (arith, length-take
 
 -- counts within the limits, as inequalities
 pub counts_in_limits_lem : (ids predicates operations : ℕ) → sound_counts ids predicates operations ≡ true → (0 < ids) × (predicates ≤ 16) × (operations ≤ 64)
-counts_in_limits_lem ids predicates operations h =
-    let both = and_parts (leb 1 ids && leb ids 128) ((leb 1 predicates && leb predicates 16) && leb operations 64) h in
-    let rest = and_parts (leb 1 predicates && leb predicates 16) (leb operations 64) both.1 in (
-      leb-true 1 ids (and_parts (leb 1 ids) (leb ids 128) both.0).0,
-      leb-true predicates 16 (and_parts (leb 1 predicates) (leb predicates 16) rest.0).1,
-      leb-true operations 64 rest.1,
-    )
+counts_in_limits_lem ids predicates operations h = grind (arith, nat_tests)

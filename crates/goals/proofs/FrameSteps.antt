@@ -1,9 +1,8 @@
 -- The walk over a file's counts, one predicate or operation at a time.
-use Rattle.std.proofs.Common.{◌≡◌, rules, ℕ, suc, ◌+◌, ◌-◌, ◌*◌, ◌<◌, ◌≤◌, Bool, true, false, cond, ltb, List, length, Ok, Err, Result, sym, refl, ap, ◌∙◌, arith}
-use Rattle.std.proofs.lemmas.Bool.{ltb-false}
+use Rattle.std.proofs.Common.{◌≡◌, rules, ℕ, suc, ◌+◌, ◌-◌, ◌*◌, ◌<◌, ◌≤◌, true, List, length, Ok, Result, sym, ap, ◌∙◌, arith}
+use Rattle.std.proofs.lemmas.Bool.Decides.{nat_tests}
 use Rattle.goals.specs.declared.frame.Frame.{Frame}
 use Rattle.goals.specs.declared.file_fault.FrameFault.{FrameFault}
-use Rattle.goals.specs.declared.file_fault.FrameFault.TheVariants.{Mark, Length}
 use Rattle.goals.specs.Bytes.{byte_at}
 use Rattle.goals.specs.Frame.{marked, predicates_end, operations_end, frame_of, length_checked, framed}
 
@@ -46,30 +45,9 @@ pub record Accepted (file : List ℕ) (f : Frame) : Type 0 where
   pub short : length file ≤ 40000
   pub whole : f.end ≡ length file
 
-accepted_by : (file : List ℕ) (f : Frame) (a b c d : Bool) → marked file ≡ a → ltb 40000 (length file) ≡ b →
-    ltb (length file) (frame_of file).end ≡ c → ltb (frame_of file).end (length file) ≡ d →
-    ◌≡◌ {A = Result Frame FrameFault} (Ok f)
-    (cond a
-    (cond b (Err (Length 40000)) (cond c (Err (Length (length file))) (cond d (Err (Length (frame_of file).end)) (Ok (frame_of file)))))
-    (Err Mark)) →
-    Accepted file f
-accepted_by file f false b c d ea eb ec ed e = let z : ◌≡◌ {A = ℕ} 0 1 = cc in absurd (omega arith)
-accepted_by file f true true c d ea eb ec ed e = let z : ◌≡◌ {A = ℕ} 0 1 = cc in absurd (omega arith)
-accepted_by file f true false true d ea eb ec ed e = let z : ◌≡◌ {A = ℕ} 0 1 = cc in absurd (omega arith)
-accepted_by file f true false false true ea eb ec ed e = let z : ◌≡◌ {A = ℕ} 0 1 = cc in absurd (omega arith)
-accepted_by file f true false false false ea eb ec ed e =
-    let q : f ≡ frame_of file = cc in
-    record {
-      mark = ea;
-      frame = q;
-      short = ltb-false 40000 (length file) eb;
-      whole = ap (λ x. x.end) q ∙ (let w : (frame_of file).end ≡ length file = omega (arith, ltb-false _ _ ec, ltb-false _ _ ed) in w);
-    }
-
 pub accepted : (file : List ℕ) (f : Frame) → Ok f ≡ framed file → Accepted file f
 unfolding framed length_checked
-accepted file f e =
-    accepted_by file f (marked file) (ltb 40000 (length file)) (ltb (length file) (frame_of file).end) (ltb (frame_of file).end (length file)) refl refl refl refl e
+accepted file f e = record { mark = grind (arith, nat_tests); frame = grind (arith, nat_tests); short = grind (arith, nat_tests); whole = grind (arith, nat_tests) }
 
 -- the sections lie one behind the other
 pub sections : (file : List ℕ) →

@@ -1,8 +1,8 @@
-use Rattle.std.proofs.Common.{◌≡◌, [], map, length, vec_items, vec_len, sym, ap, ◌∙◌, ap₂, arith}
+use Rattle.std.proofs.Common.{◌≡◌, [], map, vec_items, vec_len, sym, ap, ◌∙◌, ap₂, arith}
 use Rattle.std.proofs.lemmas.List.{length-map}
 use Rattle.goals.specs.CatalogueRules.{sound_counts, sound_predicates}
 use Rattle.goals.specs.CatalogueMeaning.{sound_operations}
-use Rattle.goals.specs.Entries.{predicate_text, operation_text}
+use Rattle.goals.specs.Entries.{predicate_text}
 use Rattle.goals.proofs.PredicateSteps.{predicates-count}
 use Rattle.goals.proofs.BoundSteps.{counts_in_limits_lem}
 use Rattle.goals.proofs.OperationSteps.{operations-count}
@@ -20,9 +20,9 @@ invariant_of-result c =
     let p = c.in_ok-read_predicates.ensures in
     let o = rw c.deref.ensures.value at c.in_ok-read_operations.ensures in
     let np : vec_len ps ≡ c.args.file.frame.predicates
-    = ps.ok.0 ∙ (sym (length-map (vec_items ps) predicate_text) ∙ (ap length p.0 ∙ predicates-count c.args.file.bytes.now c.args.file.frame.predicates 14)) in
+    = grind (arith, length-map, predicates-count) in
     let no : vec_len os ≡ c.args.file.frame.operations
-    = os.ok.0 ∙ (sym (length-map (vec_items os) operation_text) ∙ (ap length o.0 ∙ operations-count c.args.file.bytes.now c.args.file.frame.operations c.args.file.frame.operations_at)) in
+    = grind (arith, length-map, operations-count) in
     record {
       counts = ap₂ (sound_counts c.args.file.frame.ids) np no ∙ sym c.if-not-counts_in_limits.ensures;
       names = ap (sound_predicates []) p.0 ∙ p.1;

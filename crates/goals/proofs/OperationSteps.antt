@@ -1,7 +1,7 @@
 -- What each way through the reading of all operations says, over plain values.
 use Rattle.std.proofs.Common.{◌≡◌, ℕ, zero, suc, ◌+◌, ◌-◌, ◌*◌, ◌<◌, ◌≤◌, true, false, List, [], ◌∷◌, ◌++◌, map, length, Some, sym, refl, ap, ◌∙◌, subst, arith, MatchOption}
 use Rattle.std.specs.List.{slice_get}
-use Rattle.std.proofs.lemmas.List.{append_assoc, map_push, length-map}
+use Rattle.std.proofs.lemmas.List.{map_push, length-map}
 use Rattle.goals.specs.declared.operation.Operation.{Operation}
 use Rattle.goals.specs.Bytes.{byte_at}
 use Rattle.goals.specs.Sections.{PredicateText, OperationText, operation_at, operations_from}
@@ -9,6 +9,7 @@ use Rattle.goals.specs.CatalogueRules.{sound_operation}
 use Rattle.goals.specs.CatalogueMeaning.{sound_operations, AtFault}
 use Rattle.goals.specs.Entries.{operation_text}
 use Rattle.goals.proofs.BoundSteps.{all-push}
+use Rattle.goals.proofs.PredicateSteps.{moved_over}
 
 -- the place behind an operation
 abbrev behind : List ℕ → ℕ → ℕ
@@ -29,8 +30,7 @@ pub operations_table_more : (file : List ℕ) (n k at next : ℕ) (items : List 
     map operation_text items ++ operations_from file (n - k) at ≡ map operation_text (items ++ o ∷ []) ++ operations_from file (n - (k + 1)) next
 operations_table_more file n k at next items o l e q =
     ap (λ t. map operation_text items ++ t) (rest_more file n k at next l e ∙ ap (λ t. t ∷ operations_from file (n - (k + 1)) next) (sym q))
-    ∙ (sym (append_assoc (map operation_text items) (operation_text o ∷ []) (operations_from file (n - (k + 1)) next))
-    ∙ ap (λ t. t ++ operations_from file (n - (k + 1)) next) (sym (map_push operation_text items o)))
+    ∙ moved_over operation_text items o (operations_from file (n - (k + 1)) next)
 
 pub operations-test-more : (ids : ℕ) (ps : List PredicateText) (items : List Operation) (o : Operation) (x : OperationText) → operation_text o ≡ x →
     sound_operations ids ps (map operation_text items) ≡ true → sound_operation ids ps x ≡ true → sound_operations ids ps (map operation_text (items ++ o ∷ [])) ≡ true

@@ -1,9 +1,9 @@
 -- What each way through the reading of a predicate and of all predicates says, over plain values.
-use Rattle.std.proofs.Common.{◌≡◌, ℕ, zero, suc, ◌+◌, ◌-◌, ◌<◌, ◌≤◌, true, false, not, ◌&&◌, ◌||◌, List, [], ◌∷◌, ◌++◌, map, length, take, drop, sym, refl, ap, ◌∙◌, add-one, drop-cons, arith}
+use Rattle.std.proofs.Common.{◌≡◌, rules, ℕ, zero, suc, ◌+◌, ◌-◌, ◌<◌, ◌≤◌, true, false, ◌&&◌, ◌||◌, List, [], ◌∷◌, ◌++◌, map, length, take, drop, sym, refl, ap, ◌∙◌, add-one, drop-cons, arith}
 use Rattle.std.specs.List.{slice_range, list_any}
 use Rattle.std.proofs.lemmas.List.{append_assoc, map_push, get_or_past}
 use Rattle.std.proofs.lemmas.List.Folds.{list_all-append}
-use Rattle.std.proofs.lemmas.Bool.{and_left, and_right, not_from_true}
+use Rattle.std.proofs.lemmas.Bool.{and_right}
 use Rattle.std.specs.Str.{bytes_eq}
 use Rattle.goals.specs.declared.predicate.Predicate.{Predicate}
 use Rattle.goals.specs.Vocabulary.{name_of}
@@ -85,38 +85,39 @@ sound_none ps = refl
 
 pub sound-bad : (before : List PredicateText) (p : PredicateText) (ps : List PredicateText) → sound_predicate p ≡ false → sound_predicates before (p ∷ ps) ≡ false
 unfolding sound_predicates
-sound-bad before p ps h = and_left _ _ h
+sound-bad before p ps h = search rules
 
 pub sound-taken : (before : List PredicateText) (p : PredicateText) (ps : List PredicateText) → taken p.name before ≡ true → sound_predicates before (p ∷ ps) ≡ false
 unfolding sound_predicates
-sound-taken before p ps h = and_right (sound_predicate p) _ (and_left _ _ (not_from_true (taken p.name before) h))
+sound-taken before p ps h = search rules
 
 pub sound_more : (before : List PredicateText) (p : PredicateText) (ps : List PredicateText) → sound_predicate p ≡ true → taken p.name before ≡ false →
     sound_predicates before (p ∷ ps) ≡ sound_predicates (before ++ p ∷ []) ps
 unfolding sound_predicates
-sound_more before p ps h t =
-    ap (λ v. v && (not (taken p.name before) && sound_predicates (before ++ p ∷ []) ps)) h
-    ∙ ap (λ v. not v && sound_predicates (before ++ p ∷ []) ps) t
+sound_more before p ps h t = search rules
+
+-- what is read next goes from what is left to what was read
+pub moved_over : {A B : Type 0} (f : A → B) (xs : List A) (x : A) (ys : List B) → map f xs ++ (f x ∷ ys) ≡ map f (xs ++ x ∷ []) ++ ys
+moved_over f xs x ys = sym (append_assoc (map f xs) (f x ∷ []) ys) ∙ ap (λ t. t ++ ys) (sym (map_push f xs x))
 
 -- one predicate more in the table
 module _ (file : List ℕ) (n k at next : ℕ) (items : List Predicate) (p : Predicate) (l : k < n) (e : next ≡ at + 2 + byte_at file (at + 1)) (q : predicate_text p ≡ predicate_at file at) where
+  read_next : predicates_from file (n - k) at ≡ predicate_text p ∷ predicates_from file (n - (k + 1)) next
+  read_next = left_more file n k at next l e ∙ ap (λ t. t ∷ predicates_from file (n - (k + 1)) next) (sym q)
+
   pub table_more : map predicate_text items ++ predicates_from file (n - k) at ≡ map predicate_text (items ++ p ∷ []) ++ predicates_from file (n - (k + 1)) next
-  table_more =
-      ap (λ t. map predicate_text items ++ t) (left_more file n k at next l e ∙ ap (λ t. t ∷ predicates_from file (n - (k + 1)) next) (sym q))
-      ∙ (sym (append_assoc (map predicate_text items) (predicate_text p ∷ []) (predicates_from file (n - (k + 1)) next))
-      ∙ ap (λ t. t ++ predicates_from file (n - (k + 1)) next) (sym (map_push predicate_text items p)))
+  table_more = ap (λ t. map predicate_text items ++ t) read_next ∙ moved_over predicate_text items p (predicates_from file (n - (k + 1)) next)
 
   pub test-more : sound_predicate (predicate_at file at) ≡ true → taken (name_of p) (map predicate_text items) ≡ false →
       sound_predicates (map predicate_text items) (predicates_from file (n - k) at) ≡ sound_predicates (map predicate_text (items ++ p ∷ [])) (predicates_from file (n - (k + 1)) next)
   test-more h t =
-      ap (sound_predicates (map predicate_text items)) (left_more file n k at next l e ∙ ap (λ x. x ∷ predicates_from file (n - (k + 1)) next) (sym q))
+      ap (sound_predicates (map predicate_text items)) read_next
       ∙ (sound_more (map predicate_text items) (predicate_text p) (predicates_from file (n - (k + 1)) next) (ap sound_predicate q ∙ h) t
       ∙ ap (λ x. sound_predicates x (predicates_from file (n - (k + 1)) next)) (sym (map_push predicate_text items p)))
 
   pub test-taken : taken (name_of p) (map predicate_text items) ≡ true → sound_predicates (map predicate_text items) (predicates_from file (n - k) at) ≡ false
   test-taken t =
-      ap (sound_predicates (map predicate_text items)) (left_more file n k at next l e ∙ ap (λ x. x ∷ predicates_from file (n - (k + 1)) next) (sym q))
-      ∙ sound-taken (map predicate_text items) (predicate_text p) (predicates_from file (n - (k + 1)) next) t
+      ap (sound_predicates (map predicate_text items)) read_next ∙ sound-taken (map predicate_text items) (predicate_text p) (predicates_from file (n - (k + 1)) next) t
 
 pub test-bad : (file : List ℕ) (n k at : ℕ) (before : List PredicateText) → k < n → sound_predicate (predicate_at file at) ≡ false → sound_predicates before (predicates_from file (n - k) at) ≡ false
 test-bad file n k at before l h =

@@ -4,6 +4,7 @@ ghost use Rattle.goals.specs.Vocabulary.{name_of, find_from};
 ghost use Rattle.goals.specs.Meanings.{meaning};
 
 // A predicate of a catalogue: how many terms it takes, and its name, whose letters are the first `length` of `name`.
+// The array is fixed, with its length beside it: a predicate is `Copy`, and no memory is asked for after the rooms are made.
 #[derive(Clone, Copy)]
 pub struct Predicate {
     pub places: u8,

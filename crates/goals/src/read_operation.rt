@@ -102,6 +102,7 @@ impl EntryReader<'_> {
         if count > MOST_ENTRIES {
             return None;
         }
+        // A fixed array beside its count: an operation is `Copy`, and no memory is asked for after the rooms are made.
         let mut items = [UNUSED; MOST_ENTRIES];
         for (k, item) in items[..count].iter_mut().enumerate() {
             *item = self.entry(at + 3 * k)?;

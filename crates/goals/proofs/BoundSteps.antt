@@ -1,54 +1,30 @@
 -- How the tests of bounds grow with the lists that are read, and what they say of one item.
-use Rattle.std.proofs.Common.{◌≡◌, ℕ, zero, suc, ◌+◌, ◌<◌, ◌≤◌, true, ◌&&◌, leb, List, [], ◌∷◌, ◌++◌, length, get_or, take, set, Option, Some, None, IfSome, is_some, ltb, Bor, sym, refl, ap, ◌∙◌, subst, arith}
-use Rattle.std.specs.List.{slice_get}
+use Rattle.std.proofs.Common.{◌≡◌, ℕ, zero, suc, ◌+◌, ◌<◌, ◌≤◌, true, List, [], ◌∷◌, ◌++◌, length, get_or, take, set, Option, Some, None, IfSome, is_some, ltb, Bor, sym, refl, ap, ◌∙◌, subst, arith, Bool}
+use Rattle.std.specs.List.{slice_get, list_all}
 use Rattle.std.specs.Option.{option_copied}
-use Rattle.std.proofs.lemmas.Bool.{and_parts, and_from, le-leb, leb-true, ltb-true}
+use Rattle.std.proofs.lemmas.Bool.{and_parts, and_from, ltb-true}
+use Rattle.std.proofs.lemmas.List.Folds.{list_all-append}
+use Rattle.std.proofs.lemmas.Bool.Decides.{nat_tests}
 use Rattle.std.proofs.lemmas.List.{length-take-le, get_or-take, take_more_set}
 use Rattle.std.proofs.lemmas.Option.{slice_get-get_or, slice_get_past}
 use Rattle.goals.specs.declared.operation.Operation.{Operation}
 use Rattle.goals.specs.declared.operation.Entry.{Entry}
-use Rattle.goals.specs.Entries.{entries_of}
 use Rattle.goals.specs.CatalogueRules.{sound_counts}
 use Rattle.goals.specs.EntryBounds.{entry_inside, entries_inside, operation_inside, operations_inside, Inside}
 
-pub no_inside : (ids parameters : ℕ) → entries_inside ids parameters [] ≡ true
-unfolding entries_inside
-no_inside ids parameters = refl
-
-inside-push : (ids parameters : ℕ) (es : List Entry) (e : Entry) → entries_inside ids parameters es ≡ true → entry_inside ids parameters e ≡ true → entries_inside ids parameters (es ++ e ∷ []) ≡ true
-unfolding entries_inside
-inside-push ids parameters [] e h g = and_from _ _ g refl
-inside-push ids parameters (x ∷ es) e h g =
-    let p = and_parts (entry_inside ids parameters x) (entries_inside ids parameters es) h in
-    and_from _ _ p.0 (inside-push ids parameters es e p.1 g)
+-- a test that all of a list pass, with one more
+pub all-push : {A : Type 0} (test : A → Bool) (xs : List A) (x : A) → list_all test xs ≡ true → test x ≡ true → list_all test (xs ++ x ∷ []) ≡ true
+all-push test xs x h g = list_all-append test xs (x ∷ []) ∙ and_from _ _ h (and_from _ _ g refl)
 
 -- the entries below a place and the one written there
 pub inside-more : (ids parameters : ℕ) (es : List Entry) (k : ℕ) (e : Entry) → k < length es → entries_inside ids parameters (take k es) ≡ true → entry_inside ids parameters e ≡ true
     → entries_inside ids parameters (take (k + 1) (set es k e)) ≡ true
+unfolding entries_inside
 inside-more ids parameters es k e lt h g =
-    ap (entries_inside ids parameters) (take_more_set es k e lt) ∙ inside-push ids parameters (take k es) e h g
-
-pub operation-inside : (ids : ℕ) (o : Operation) → o.parameters ≤ 3 → o.span.hours ≤ 1000
-    → entries_inside ids o.parameters (entries_of o.needs) ≡ true → entries_inside ids o.parameters (entries_of o.takes) ≡ true → entries_inside ids o.parameters (entries_of o.puts) ≡ true
-    → operation_inside ids o ≡ true
-unfolding operation_inside
-operation-inside ids o p s n t u =
-    and_from _ _ (le-leb o.parameters 3 p) (and_from _ _ (le-leb o.span.hours 1000 s) (and_from _ _ n (and_from _ _ t u)))
-
-pub no_operations-inside : (ids : ℕ) → operations_inside ids [] ≡ true
-unfolding operations_inside
-no_operations-inside ids = refl
-
-pub operations-inside-push : (ids : ℕ) (os : List Operation) (o : Operation) → operations_inside ids os ≡ true → operation_inside ids o ≡ true → operations_inside ids (os ++ (o ∷ [])) ≡ true
-unfolding operations_inside
-operations-inside-push ids [] o h g = and_from _ _ g refl
-operations-inside-push ids (x ∷ os) o h g =
-    let p = and_parts (operation_inside ids x) (operations_inside ids os) h in
-    and_from _ _ p.0 (operations-inside-push ids os o p.1 g)
+    ap (entries_inside ids parameters) (take_more_set es k e lt) ∙ all-push (entry_inside ids parameters) (take k es) e h g
 
 -- each operation of a list that keeps within the bounds does
 pub inside-at : (ids : ℕ) (os : List Operation) (k : ℕ) (o : Operation) → operations_inside ids os ≡ true → slice_get os k ≡ Some o → Inside ids o
-unfolding operations_inside
 inside-at ids [] k o h e = let z : ◌≡◌ {A = ℕ} 0 1 = cc in absurd (omega arith)
 inside-at ids (x ∷ os) zero o h e = let same : x ≡ o = cc in subst (Inside ids) same (and_parts (operation_inside ids x) (operations_inside ids os) h).0
 inside-at ids (x ∷ os) (suc k) o h e = inside-at ids os k o (and_parts (operation_inside ids x) (operations_inside ids os) h).1 e
@@ -72,10 +48,4 @@ nth_behind xs n i h le = slice_get_past (take n xs) i (omega (arith, length-take
 
 -- counts within the limits, as inequalities
 pub counts_in_limits_lem : (ids predicates operations : ℕ) → sound_counts ids predicates operations ≡ true → (0 < ids) × (predicates ≤ 16) × (operations ≤ 64)
-counts_in_limits_lem ids predicates operations h =
-    let both = and_parts (leb 1 ids && leb ids 128) ((leb 1 predicates && leb predicates 16) && leb operations 64) h in
-    let rest = and_parts (leb 1 predicates && leb predicates 16) (leb operations 64) both.1 in (
-      leb-true 1 ids (and_parts (leb 1 ids) (leb ids 128) both.0).0,
-      leb-true predicates 16 (and_parts (leb 1 predicates) (leb predicates 16) rest.0).1,
-      leb-true operations 64 rest.1,
-    )
+counts_in_limits_lem ids predicates operations h = grind (arith, nat_tests)

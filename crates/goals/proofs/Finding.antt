@@ -1,20 +1,15 @@
 -- Names and numbers: a search for a name goes on by one, and a number grows by one digit.
-use Rattle.std.proofs.Common.{◌≡◌, ℕ, zero, suc, ◌+◌, ◌-◌, ◌*◌, ◌<◌, ◌≤◌, min, Bool, true, false, List, [], ◌∷◌, length, get_or, take, drop, Decides, sym, refl, ap, ◌∙◌, add-one, arith, length-take, drop-cons, get_or-take}
-use Rattle.std.proofs.lemmas.Bool.{cond-true, cond-false, both_ways}
-use Rattle.std.specs.List.{fold}
+use Rattle.std.proofs.Common.{◌≡◌, ℕ, zero, suc, ◌+◌, ◌-◌, ◌*◌, ◌<◌, ◌≤◌, min, Bool, true, false, List, [], ◌∷◌, length, get_or, take, drop, sym, refl, ap, ◌∙◌, arith, cond, position, Some, None}
+use Rattle.std.proofs.lemmas.Bool.{cond-true, cond-false}
+use Rattle.std.specs.List.{fold, position_or_len}
 use Rattle.std.specs.Str.{bytes_eq}
-use Rattle.std.proofs.lemmas.Slice.Eq.{bytes_eq-Decides}
+use Rattle.std.proofs.lemmas.Bool.{cond-true, cond-false, ltb-false}
+use Rattle.std.proofs.lemmas.List.Quantifiers.{position-Some}
+use Rattle.std.proofs.lemmas.List.Sums.{fails_before_first}
+use Rattle.std.proofs.lemmas.Option.{none-some}
 use Rattle.goals.specs.declared.predicate.Predicate.{Predicate}
 use Rattle.goals.specs.Vocabulary.{missing, found, places_of, name_of, find_from}
 use Rattle.goals.specs.Meanings.{capped}
-
-pub same_by : (xs ys : List ℕ) (r : Bool) → Decides r (xs ≡ ys) → r ≡ bytes_eq xs ys
-same_by xs ys true h = sym ((bytes_eq-Decides xs ys).1 (h.0 refl))
-same_by xs ys false h = go (bytes_eq xs ys) refl
-  where
-    go : (b : Bool) → bytes_eq xs ys ≡ b → false ≡ bytes_eq xs ys
-    go true e = absurd (both_ways false refl (h.1 ((bytes_eq-Decides xs ys).0 e)))
-    go false e = sym e
 
 past : {A : Type 0} (l : List A) (i : ℕ) → length l ≤ i → drop i l ≡ []
 past [] zero h = refl
@@ -22,23 +17,49 @@ past [] (suc i) h = refl
 past (x ∷ l) zero h = absurd (omega arith)
 past (x ∷ l) (suc i) h = past l i (omega arith)
 
-module _ (ps : List Predicate) (b : List ℕ) (d : Predicate) (i : ℕ) where
-  front : i < length ps → i < 256 → drop i (take 256 ps) ≡ get_or ps i d ∷ drop (i + 1) (take 256 ps)
-  front h g =
-      let l : i < length (take 256 ps) = let e = length-take 256 ps in omega (arith, e) in
-      rw add-one (drop-cons (take 256 ps) i d l) ∙ ap (λ x. x ∷ drop (i + 1) (take 256 ps)) (get_or-take 256 ps i d g)
+-- the predicates of a list by their names
 
-  pub find-here : i < length ps → i < 256 → bytes_eq (name_of (get_or ps i d)) b ≡ true → find_from i (drop i (take 256 ps)) b ≡ found i (places_of (get_or ps i d).places)
+module _ (b : List ℕ) (d : Predicate) where
+  abbrev bears : List Predicate → ℕ → Bool
+  bears ps k = bytes_eq (name_of (get_or ps k d)) b
+
+  -- none of the first n bears the name
+  find-no : (i n : ℕ) (ps : List Predicate) → ((k : ℕ) → k < n → k < length ps → bears ps k ≡ false) → find_from i (take n ps) b ≡ missing
   unfolding find_from
-  find-here h g e = ap (λ l. find_from i l b) (front h g) ∙ cond-true (bytes_eq (name_of (get_or ps i d)) b) _ _ e
+  find-no i zero ps h = refl
+  find-no i (suc n) [] h = refl
+  find-no i (suc n) (p ∷ ps) h =
+      cond-false (bytes_eq (name_of p) b) _ _ (h 0 (omega arith) (omega arith)) ∙ find-no (suc i) n ps (λ k l m. h (suc k) (omega arith) (omega arith))
 
-  pub find_on : i < length ps → i < 256 → bytes_eq (name_of (get_or ps i d)) b ≡ false → find_from i (drop i (take 256 ps)) b ≡ find_from (i + 1) (drop (i + 1) (take 256 ps)) b
+  -- the one with the number k is the first that does
+  find-yes : (i n k : ℕ) (ps : List Predicate) → k < n → k < length ps → ((j : ℕ) → j < k → bears ps j ≡ false) → bears ps k ≡ true →
+      find_from i (take n ps) b ≡ found (i + k) (places_of (get_or ps k d).places)
   unfolding find_from
-  find_on h g e = ap (λ l. find_from i l b) (front h g) ∙ cond-false (bytes_eq (name_of (get_or ps i d)) b) _ _ e ∙ ap (λ n. find_from n (drop (i + 1) (take 256 ps)) b) (sym (add-one i))
+  find-yes i zero k ps l m h e = absurd (omega arith)
+  find-yes i (suc n) k [] l m h e = absurd (omega arith)
+  find-yes i (suc n) zero (p ∷ ps) l m h e =
+      cond-true (bytes_eq (name_of p) b) _ _ e ∙ ap (λ x. found x (places_of p.places)) (let q : i ≡ i + 0 = omega arith in q)
+  find-yes i (suc n) (suc k) (p ∷ ps) l m h e =
+      cond-false (bytes_eq (name_of p) b) _ _ (h 0 (omega arith)) ∙ find-yes (suc i) n k ps (omega arith) (omega arith) (λ j l. h (suc j) (omega arith)) e
+      ∙ ap (λ x. found x (places_of (get_or ps k d).places)) (let q : suc i + k ≡ i + suc k = omega arith in q)
 
-pub find_none : (ps : List Predicate) (b : List ℕ) (i : ℕ) → (length (take 256 ps) ≤ i) → find_from i (drop i (take 256 ps)) b ≡ missing
-unfolding find_from
-find_none ps b i h = ap (λ l. find_from i l b) (past (take 256 ps) i h)
+none_from : {A : Type 0} (v : Bool) (x : A) → cond v (Some x) None ≡ None → v ≡ false
+none_from true x e = absurd (none-some x (sym e))
+none_from false x e = refl
+
+module _ (ps : List Predicate) (b : List ℕ) (d : Predicate) where
+  pub find_none : None ≡ position (λ p. bytes_eq (name_of p) b) ps → find_from 0 (take 256 ps) b ≡ missing
+  find_none e =
+      let l = ltb-false (position_or_len (λ p. bytes_eq (name_of p) b) ps) (length ps) (none_from _ _ (sym e)) in
+      find-no b d 0 256 ps (λ k m h. fails_before_first (λ p. bytes_eq (name_of p) b) ps k d (omega arith))
+
+  module _ (k : ℕ) (e : Some k ≡ position (λ p. bytes_eq (name_of p) b) ps) where
+    pub find_late : 256 ≤ k → find_from 0 (take 256 ps) b ≡ missing
+    find_late l = let at = position-Some (λ p. bytes_eq (name_of p) b) ps k d (sym e) in find-no b d 0 256 ps (λ j m h. at.2 j (omega arith))
+
+    pub find_first : k < 256 → find_from 0 (take 256 ps) b ≡ found k (places_of (get_or ps k d).places)
+    find_first l = let at = position-Some (λ p. bytes_eq (name_of p) b) ps k d (sym e) in
+        find-yes b d 0 256 k ps l at.0 at.2 at.1 ∙ ap (λ n. found n (places_of (get_or ps k d).places)) (let q : 0 + k ≡ k = omega arith in q)
 
 -- a number that has stopped growing
 stopped : (m : ℕ) (ds : List ℕ) → capped m ds ≡ capped (min m 65535) ds

@@ -1,9 +1,8 @@
 -- The walk over a file's counts, one predicate or operation at a time.
-use Rattle.std.proofs.Common.{◌≡◌, ℕ, suc, ◌+◌, ◌-◌, ◌*◌, ◌<◌, ◌≤◌, Bool, true, false, cond, ltb, List, length, Ok, Err, Result, sym, refl, ap, ◌∙◌, arith}
-use Rattle.std.proofs.lemmas.Bool.{cond-true, cond-false, lt-ltb, le-ltb, ltb-false}
+use Rattle.std.proofs.Common.{◌≡◌, rules, ℕ, suc, ◌+◌, ◌-◌, ◌*◌, ◌<◌, ◌≤◌, true, List, length, Ok, Result, sym, ap, ◌∙◌, arith}
+use Rattle.std.proofs.lemmas.Bool.Decides.{nat_tests}
 use Rattle.goals.specs.declared.frame.Frame.{Frame}
 use Rattle.goals.specs.declared.file_fault.FrameFault.{FrameFault}
-use Rattle.goals.specs.declared.file_fault.FrameFault.TheVariants.{Mark, Length}
 use Rattle.goals.specs.Bytes.{byte_at}
 use Rattle.goals.specs.Frame.{marked, predicates_end, operations_end, frame_of, length_checked, framed}
 
@@ -33,41 +32,10 @@ pub operations-all : (file : List ℕ) (n i at : ℕ) → n ≤ i → operations
 unfolding operations_end
 operations-all file n i at l = ap (λ k. operations_end file k at) (none_left n i l)
 
--- the outcome, case by case
-
-pub framed_unmarked : (file : List ℕ) → marked file ≡ false → ◌≡◌ {A = Result Frame FrameFault} (Err Mark) (framed file)
-unfolding framed
-framed_unmarked file m = sym (cond-false (marked file) _ _ m)
-
-module _ (file : List ℕ) (m : marked file ≡ true) where
-  pub framed-long : 40000 < length file → ◌≡◌ {A = Result Frame FrameFault} (Err (Length 40000)) (framed file)
-  unfolding framed length_checked
-  framed-long l = sym (cond-true (marked file) _ _ m ∙ cond-true (ltb 40000 (length file)) _ _ (lt-ltb _ _ l))
-
-  short : length file ≤ 40000 → framed file ≡ length_checked (length file) (frame_of file)
-  unfolding framed
-  short l = cond-true (marked file) _ _ m
-
-module _ (file : List ℕ) (f : Frame) (m : marked file ≡ true) (e : f ≡ frame_of file) (l : length file ≤ 40000) where
-  within : framed file ≡ length_checked (length file) f
-  within = short file m l ∙ ap (length_checked (length file)) (sym e)
-
-  pub framed_early : length file < f.end → ◌≡◌ {A = Result Frame FrameFault} (Err (Length (length file))) (framed file)
-  unfolding length_checked
-  framed_early h =
-      sym (within ∙ (cond-false (ltb 40000 (length file)) _ _ (le-ltb _ _ l) ∙ cond-true (ltb (length file) f.end) _ _ (lt-ltb _ _ h)))
-
-  pub framed-over : f.end < length file → ◌≡◌ {A = Result Frame FrameFault} (Err (Length f.end)) (framed file)
-  unfolding length_checked
-  framed-over h =
-      sym (within ∙ (cond-false (ltb 40000 (length file)) _ _ (le-ltb _ _ l)
-      ∙ (cond-false (ltb (length file) f.end) _ _ (le-ltb _ _ (omega arith)) ∙ cond-true (ltb f.end (length file)) _ _ (lt-ltb _ _ h))))
-
-  pub framed-whole : f.end ≤ length file → length file ≤ f.end → ◌≡◌ {A = Result Frame FrameFault} (Ok f) (framed file)
-  unfolding length_checked
-  framed-whole g h =
-      sym (within ∙ (cond-false (ltb 40000 (length file)) _ _ (le-ltb _ _ l)
-      ∙ (cond-false (ltb (length file) f.end) _ _ (le-ltb _ _ g) ∙ cond-false (ltb f.end (length file)) _ _ (le-ltb _ _ h))))
+-- a file that its frame fills
+pub framed-whole : (file : List ℕ) (f : Frame) → marked file ≡ true → f ≡ frame_of file → length file ≤ 40000 → f.end ≤ length file → length file ≤ f.end → ◌≡◌ {A = Result Frame FrameFault} (Ok f) (framed file)
+unfolding framed length_checked
+framed-whole file f m e l g h = search rules
 
 -- what an accepted frame tells
 
@@ -77,30 +45,9 @@ pub record Accepted (file : List ℕ) (f : Frame) : Type 0 where
   pub short : length file ≤ 40000
   pub whole : f.end ≡ length file
 
-accepted_by : (file : List ℕ) (f : Frame) (a b c d : Bool) → marked file ≡ a → ltb 40000 (length file) ≡ b →
-    ltb (length file) (frame_of file).end ≡ c → ltb (frame_of file).end (length file) ≡ d →
-    ◌≡◌ {A = Result Frame FrameFault} (Ok f)
-    (cond a
-    (cond b (Err (Length 40000)) (cond c (Err (Length (length file))) (cond d (Err (Length (frame_of file).end)) (Ok (frame_of file)))))
-    (Err Mark)) →
-    Accepted file f
-accepted_by file f false b c d ea eb ec ed e = let z : ◌≡◌ {A = ℕ} 0 1 = cc in absurd (omega arith)
-accepted_by file f true true c d ea eb ec ed e = let z : ◌≡◌ {A = ℕ} 0 1 = cc in absurd (omega arith)
-accepted_by file f true false true d ea eb ec ed e = let z : ◌≡◌ {A = ℕ} 0 1 = cc in absurd (omega arith)
-accepted_by file f true false false true ea eb ec ed e = let z : ◌≡◌ {A = ℕ} 0 1 = cc in absurd (omega arith)
-accepted_by file f true false false false ea eb ec ed e =
-    let q : f ≡ frame_of file = cc in
-    record {
-      mark = ea;
-      frame = q;
-      short = ltb-false 40000 (length file) eb;
-      whole = ap (λ x. x.end) q ∙ (let w : (frame_of file).end ≡ length file = omega (arith, ltb-false _ _ ec, ltb-false _ _ ed) in w);
-    }
-
 pub accepted : (file : List ℕ) (f : Frame) → Ok f ≡ framed file → Accepted file f
 unfolding framed length_checked
-accepted file f e =
-    accepted_by file f (marked file) (ltb 40000 (length file)) (ltb (length file) (frame_of file).end) (ltb (frame_of file).end (length file)) refl refl refl refl e
+accepted file f e = record { mark = grind (arith, nat_tests); frame = grind (arith, nat_tests); short = grind (arith, nat_tests); whole = grind (arith, nat_tests) }
 
 -- the sections lie one behind the other
 pub sections : (file : List ℕ) →

@@ -1,23 +1,23 @@
 -- From a framed file to its job: where the goal text lies, and that the catalogue's words are the file's.
-use Rattle.std.proofs.Common.{◌≡◌, ℕ, zero, suc, ◌+◌, ◌-◌, ◌*◌, ◌<◌, ◌≤◌, true, cond, ◌&&◌, leb, List, [], ◌∷◌, map, length, get_or, take, drop, Ok, vec_items, vec_len, sym, refl, ap, ◌∙◌, subst, ap₂, arith}
+use Rattle.std.proofs.Common.{◌≡◌, ℕ, zero, suc, ◌+◌, ◌-◌, ◌*◌, ◌≤◌, true, cond, List, [], ◌∷◌, map, length, take, drop, Ok, vec_items, vec_len, sym, refl, ap, ◌∙◌, subst, ap₂, arith}
 use mathlib.Core.Path.{fun_ext}
 use Rattle.std.specs.Str.{bytes_eq}
 use Rattle.std.proofs.lemmas.List.{take_all, length-map}
-use Rattle.std.proofs.lemmas.Bool.{and_from, and_parts, leb-true}
+use Rattle.std.proofs.lemmas.Bool.{and_from}
 use Rattle.goals.specs.declared.frame.Frame.{Frame}
 use Rattle.goals.specs.declared.predicate.Predicate.{Predicate}
 use Rattle.goals.specs.declared.catalogue.Catalogue.{Catalogue}
 use Rattle.goals.specs.Bytes.{byte_at}
 use Rattle.goals.specs.Frame.{framed, frame_of, operations_end}
-use Rattle.goals.specs.Sections.{bytes_at}
 use Rattle.goals.specs.CatalogueRules.{sound_counts, sound_predicates}
 use Rattle.goals.specs.CatalogueMeaning.{shape_sound, sound_operations}
 use Rattle.goals.specs.CatalogueReading.{Spelled}
-use Rattle.goals.specs.Entries.{predicate_text, operation_text}
+use Rattle.goals.specs.Entries.{predicate_text}
 use Rattle.goals.specs.Vocabulary.{find_from, vocabulary_of, name_of, found, places_of}
 use Rattle.goals.specs.JobText.{goal_text, find_text, words_from, words_of, operations_sound}
 use Rattle.goals.proofs.FrameSteps.{accepted, sections}
-use Rattle.goals.proofs.PredicateSteps.{predicates-count}
+use Rattle.goals.proofs.BoundSteps.{counts_in_limits_lem}
+use Rattle.goals.proofs.PredicateSteps.{slice_bytes, predicates-count}
 use Rattle.goals.proofs.OperationSteps.{operations-count}
 
 -- places
@@ -58,18 +58,6 @@ inside file f e =
     let a = accepted file f e in
     subst (Inside file) (sym a.frame) (inside_of file (ap (λ g. g.end) (sym a.frame) ∙ a.whole) a.short)
 
--- the bytes of a part are a slice
-pub slice_bytes : (file : List ℕ) (n at : ℕ) → at + n ≤ length file → take n (drop at file) ≡ bytes_at file n at
-unfolding bytes_at
-slice_bytes file zero at l = refl
-slice_bytes file (suc n) at l =
-    ap (take (suc n)) (drop-one file at (omega arith)) ∙ ap (λ t. byte_at file at ∷ t) (slice_bytes file n (at + 1) (omega arith))
-  where
-    drop-one : (xs : List ℕ) (k : ℕ) → k < length xs → drop k xs ≡ get_or xs k 0 ∷ drop (k + 1) xs
-    drop-one [] k h = absurd (omega arith)
-    drop-one (x ∷ xs) zero h = refl
-    drop-one (x ∷ xs) (suc k) h = drop-one xs k (omega arith) ∙ ap (λ m. get_or xs k 0 ∷ drop m (x ∷ xs)) (let e : suc (k + 1) ≡ suc k + 1 = omega arith in e)
-
 pub goal_slice : (file : List ℕ) (f : Frame) → Inside file f → take (f.steps_at - f.goal_at) (drop f.goal_at file) ≡ goal_text file f
 goal_slice file f i =
     ap (λ n. take n (drop f.goal_at file)) (let e : f.steps_at - f.goal_at ≡ f.goal_length = omega (arith, i.goal_long) in e)
@@ -88,14 +76,9 @@ words_same n ps l =
     λ i. record { ids = n; lookup = e i }
 
 -- a catalogue has few predicates
-counts-few : (i p o : ℕ) → sound_counts i p o ≡ true → p ≤ 16
-counts-few i p o h =
-    leb-true p 16 (and_parts (leb 1 p) _ (and_parts (leb 1 p && leb p 16) _ (and_parts (leb 1 i && leb i 128) _ h).1).0).1
-
 pub few-predicates : (c : Catalogue) → length (vec_items c.predicates) ≤ 256
 few-predicates c =
-    let n = counts-few c.ids (vec_len c.predicates) (vec_len c.operations) c.counts in
-    omega (arith, n, c.predicates.ok.0)
+    let n = counts_in_limits_lem c.ids (vec_len c.predicates) (vec_len c.operations) c.counts in omega (arith, n.1, c.predicates.ok.0)
 
 -- what a spelled-out catalogue says of the file
 module _ (file : List ℕ) (f : Frame) (c : Catalogue) (s : Spelled file f c) where
@@ -105,14 +88,10 @@ module _ (file : List ℕ) (f : Frame) (c : Catalogue) (s : Spelled file f c) wh
       ∙ ap₂ words_from s.ids_same s.predicates_same
 
   counted_predicates : vec_len c.predicates ≡ f.predicates
-  counted_predicates =
-      c.predicates.ok.0
-      ∙ (sym (length-map (vec_items c.predicates) predicate_text) ∙ (ap length s.predicates_same ∙ predicates-count file f.predicates 14))
+  counted_predicates = grind (arith, length-map, predicates-count)
 
   counted_operations : vec_len c.operations ≡ f.operations
-  counted_operations =
-      c.operations.ok.0
-      ∙ (sym (length-map (vec_items c.operations) operation_text) ∙ (ap length s.operations_same ∙ operations-count file f.operations f.operations_at))
+  counted_operations = grind (arith, length-map, operations-count)
 
   pub shape-of-file : shape_sound file f ≡ true
   shape-of-file =

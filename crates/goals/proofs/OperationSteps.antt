@@ -1,14 +1,15 @@
 -- What each way through the reading of all operations says, over plain values.
 use Rattle.std.proofs.Common.{◌≡◌, ℕ, zero, suc, ◌+◌, ◌-◌, ◌*◌, ◌<◌, ◌≤◌, true, false, List, [], ◌∷◌, ◌++◌, map, length, Some, sym, refl, ap, ◌∙◌, subst, arith, MatchOption}
 use Rattle.std.specs.List.{slice_get}
-use Rattle.std.proofs.lemmas.List.{append_assoc, map_push, length-map}
-use Rattle.std.proofs.lemmas.Bool.{and_from, and_parts}
+use Rattle.std.proofs.lemmas.List.{map_push, length-map}
 use Rattle.goals.specs.declared.operation.Operation.{Operation}
 use Rattle.goals.specs.Bytes.{byte_at}
 use Rattle.goals.specs.Sections.{PredicateText, OperationText, operation_at, operations_from}
 use Rattle.goals.specs.CatalogueRules.{sound_operation}
 use Rattle.goals.specs.CatalogueMeaning.{sound_operations, AtFault}
 use Rattle.goals.specs.Entries.{operation_text}
+use Rattle.goals.proofs.BoundSteps.{all-push}
+use Rattle.goals.proofs.PredicateSteps.{moved_over}
 
 -- the place behind an operation
 abbrev behind : List ℕ → ℕ → ℕ
@@ -25,32 +26,17 @@ pub rest-none : (file : List ℕ) (n k at : ℕ) → n ≤ k → operations_from
 unfolding operations_from
 rest-none file n k at l = ap (λ m. operations_from file m at) (let q : n - k ≡ 0 = omega arith in q)
 
-pub rest-start : (file : List ℕ) (n at : ℕ) → operations_from file n at ≡ operations_from file (n - 0) at
-rest-start file n at = ap (λ m. operations_from file m at) (let q : n ≡ n - 0 = omega arith in q)
-
 pub operations_table_more : (file : List ℕ) (n k at next : ℕ) (items : List Operation) (o : Operation) → k < n → next ≡ behind file at → operation_text o ≡ operation_at file at →
     map operation_text items ++ operations_from file (n - k) at ≡ map operation_text (items ++ o ∷ []) ++ operations_from file (n - (k + 1)) next
 operations_table_more file n k at next items o l e q =
     ap (λ t. map operation_text items ++ t) (rest_more file n k at next l e ∙ ap (λ t. t ∷ operations_from file (n - (k + 1)) next) (sym q))
-    ∙ (sym (append_assoc (map operation_text items) (operation_text o ∷ []) (operations_from file (n - (k + 1)) next))
-    ∙ ap (λ t. t ++ operations_from file (n - (k + 1)) next) (sym (map_push operation_text items o)))
-
-sound-push : (ids : ℕ) (ps : List PredicateText) (os : List OperationText) (o : OperationText) → sound_operations ids ps os ≡ true → sound_operation ids ps o ≡ true →
-    sound_operations ids ps (os ++ o ∷ []) ≡ true
-unfolding sound_operations
-sound-push ids ps [] o h s = and_from _ _ s refl
-sound-push ids ps (x ∷ xs) o h s =
-    let p = and_parts (sound_operation ids ps x) _ h in and_from _ _ p.0 (sound-push ids ps xs o p.1 s)
+    ∙ moved_over operation_text items o (operations_from file (n - (k + 1)) next)
 
 pub operations-test-more : (ids : ℕ) (ps : List PredicateText) (items : List Operation) (o : Operation) (x : OperationText) → operation_text o ≡ x →
     sound_operations ids ps (map operation_text items) ≡ true → sound_operation ids ps x ≡ true → sound_operations ids ps (map operation_text (items ++ o ∷ [])) ≡ true
 operations-test-more ids ps items o x q h s =
     ap (sound_operations ids ps) (map_push operation_text items o)
-    ∙ sound-push ids ps (map operation_text items) (operation_text o) h (ap (sound_operation ids ps) q ∙ s)
-
-pub no_operations_lem : (ids : ℕ) (ps : List PredicateText) → sound_operations ids ps [] ≡ true
-unfolding sound_operations
-no_operations_lem ids ps = refl
+    ∙ all-push (sound_operation ids ps) (map operation_text items) (operation_text o) h (ap (sound_operation ids ps) q ∙ s)
 
 nth_behind : {X : Type 0} (xs : List X) (y : X) (ys : List X) (k : ℕ) → length xs ≡ k → slice_get (xs ++ y ∷ ys) k ≡ Some y
 nth_behind [] y ys zero e = refl

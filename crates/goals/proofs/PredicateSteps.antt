@@ -1,12 +1,12 @@
 -- What each way through the reading of a predicate and of all predicates says, over plain values.
-use Rattle.std.proofs.Common.{◌≡◌, ℕ, zero, suc, ◌+◌, ◌-◌, ◌<◌, ◌≤◌, Bool, true, false, cond, not, ◌&&◌, ◌||◌, leb, List, [], ◌∷◌, ◌++◌, map, length, take, set, is_some, Some, None, Option, sym, refl, ap, ◌∙◌, arith}
-use Rattle.std.proofs.lemmas.List.{take_more_set, append_assoc, map_push}
-use Rattle.std.proofs.lemmas.Bool.{and_left, and_right, not_from_true}
+use Rattle.std.proofs.Common.{◌≡◌, rules, ℕ, zero, suc, ◌+◌, ◌-◌, ◌<◌, ◌≤◌, true, false, ◌&&◌, ◌||◌, List, [], ◌∷◌, ◌++◌, map, length, take, drop, sym, refl, ap, ◌∙◌, add-one, drop-cons, arith}
+use Rattle.std.specs.List.{slice_range, list_any}
+use Rattle.std.proofs.lemmas.List.{append_assoc, map_push, get_or_past}
+use Rattle.std.proofs.lemmas.List.Folds.{list_all-append}
+use Rattle.std.proofs.lemmas.Bool.{and_right}
 use Rattle.std.specs.Str.{bytes_eq}
 use Rattle.goals.specs.declared.predicate.Predicate.{Predicate}
-use Rattle.goals.specs.declared.predicate.Sense.{Sense}
-use Rattle.goals.specs.Vocabulary.{Found, name_of, find_from, found, places_of, is_known}
-use Rattle.goals.specs.Meanings.{meaning}
+use Rattle.goals.specs.Vocabulary.{name_of}
 use Rattle.goals.specs.Bytes.{byte_at}
 use Rattle.goals.specs.Tokens.{is_letter}
 use Rattle.goals.specs.Sections.{PredicateText, bytes_at, predicate_at, predicates_from}
@@ -28,51 +28,27 @@ bytes-more file (suc k) at =
     ∙ ap (λ l. byte_at file at ∷ l)
     (bytes-more file k (at + 1) ∙ ap (λ n. bytes_at file k (at + 1) ++ byte_at file n ∷ []) (let e : at + 1 + k ≡ at + suc k = omega arith in e))
 
-pub no_bytes : (file : List ℕ) (at : ℕ) → [] ≡ bytes_at file 0 at
+-- the bytes of a part are a slice
+pub slice_bytes : (file : List ℕ) (n at : ℕ) → at + n ≤ length file → take n (drop at file) ≡ bytes_at file n at
 unfolding bytes_at
-no_bytes file at = refl
+slice_bytes file zero at l = refl
+slice_bytes file (suc n) at l =
+    let one : drop at file ≡ byte_at file at ∷ drop (at + 1) file = rw add-one (drop-cons file at 0 (omega arith)) in
+    ap (take (suc n)) one ∙ ap (λ t. byte_at file at ∷ t) (slice_bytes file n (at + 1) (omega arith))
 
--- what is left to test, one letter on
-pub letters-more : (file : List ℕ) (n k at : ℕ) (v : Bool) → k < n → v ≡ is_letter (byte_at file (at + k)) →
-    all_letters (bytes_at file (n - k) (at + k)) ≡ (v && all_letters (bytes_at file (n - (k + 1)) (at + (k + 1))))
-unfolding bytes_at all_letters
-letters-more file n k at v l h =
-    ap (λ m. all_letters (bytes_at file m (at + k))) (let e : n - k ≡ suc (n - (k + 1)) = omega arith in e)
-    ∙ (ap (λ m. is_letter (byte_at file (at + k)) && all_letters (bytes_at file (n - (k + 1)) m)) (let e : at + k + 1 ≡ at + (k + 1) = omega arith in e)
-    ∙ ap (λ t. t && all_letters (bytes_at file (n - (k + 1)) (at + (k + 1)))) (sym h))
+pub range-bytes : (file : List ℕ) (n at : ℕ) → at + n ≤ length file → slice_range file at (at + n) ≡ bytes_at file n at
+range-bytes file n at l = ap (λ m. take m (drop at file)) (let e : at + n - at ≡ n = omega arith in e) ∙ slice_bytes file n at l
 
-pub letters-all : (file : List ℕ) (n k at : ℕ) → n ≤ k → all_letters (bytes_at file (n - k) (at + k)) ≡ true
-unfolding bytes_at all_letters
-letters-all file n k at l = ap (λ m. all_letters (bytes_at file m (at + k))) (let e : n - k ≡ 0 = omega arith in e)
-
-pub letters-start : (file : List ℕ) (n at : ℕ) → all_letters (bytes_at file n at) ≡ all_letters (bytes_at file (n - 0) (at + 0))
-letters-start file n at =
-    ap (λ m. all_letters (bytes_at file m at)) (let e : n ≡ n - 0 = omega arith in e)
-    ∙ ap (λ m. all_letters (bytes_at file (n - 0) m)) (let e : at ≡ at + 0 = omega arith in e)
-
-pub name-more : (name : List ℕ) (k b : ℕ) (file : List ℕ) (at : ℕ) → k < length name → take k name ≡ bytes_at file k at → b ≡ byte_at file (at + k) →
-    take (k + 1) (set name k b) ≡ bytes_at file (k + 1) at
-name-more name k b file at l e h =
-    take_more_set name k b l ∙ (ap (λ t. t ++ b ∷ []) e ∙ (ap (λ t. bytes_at file k at ++ t ∷ []) h ∙ sym (bytes-more file k at)))
+-- a byte past the end is no letter
+pub letters_past : (file : List ℕ) (n at : ℕ) → 0 < n → length file < at + n → all_letters (bytes_at file n at) ≡ false
+letters_past file zero at z l = absurd (omega arith)
+letters_past file (suc k) at z l =
+    ap (λ m. all_letters (bytes_at file m at)) (let e : suc k ≡ k + 1 = omega arith in e)
+    ∙ ap all_letters (bytes-more file k at)
+    ∙ list_all-append is_letter (bytes_at file k at) (byte_at file (at + k) ∷ [])
+    ∙ and_right (all_letters (bytes_at file k at)) _ (ap (λ b. is_letter b && true) (get_or_past file (at + k) 0 (omega arith)))
 
 -- one predicate
-
--- the name's length in the rule is the length byte
-limits_as : (p n m : ℕ) (a : Bool) → m ≡ n → (leb p 2 && (leb 1 n && (leb n 16 && a))) ≡ (leb p 2 && (leb 1 m && (leb m 16 && a)))
-limits_as p n m a e = ap (λ t. leb p 2 && (leb 1 t && (leb t 16 && a))) (sym e)
-
-regroup : (p x y a : Bool) → (p && (x && (y && a))) ≡ ((p && (x && y)) && a)
-regroup true true y a = refl
-regroup true false y a = refl
-regroup false x y a = refl
-
--- a predicate is sound exactly when its numbers are in their limits and its name has small letters only
-pub predicate-sound : (file : List ℕ) (at n : ℕ) → n ≡ byte_at file (at + 1) →
-    sound_predicate (predicate_at file at) ≡ ((leb (byte_at file at) 2 && (leb 1 n && leb n 16)) && all_letters (bytes_at file n (at + 2)))
-predicate-sound file at n e =
-    limits_as (byte_at file at) (length (bytes_at file (byte_at file (at + 1)) (at + 2))) n (all_letters (bytes_at file (byte_at file (at + 1)) (at + 2))) (e ∙ sym (bytes_count file (byte_at file (at + 1)) (at + 2)))
-    ∙ (regroup (leb (byte_at file at) 2) (leb 1 n) (leb n 16) (all_letters (bytes_at file (byte_at file (at + 1)) (at + 2)))
-    ∙ ap (λ t. (leb (byte_at file at) 2 && (leb 1 n && leb n 16)) && all_letters (bytes_at file t (at + 2))) (sym e))
 
 pub predicate_back : (x : PredicateText) (places : ℕ) (name : List ℕ) → places ≡ x.places → name ≡ x.name →
     ◌≡◌ {A = PredicateText} (record { places = places; name = name }) x
@@ -80,19 +56,9 @@ predicate_back x places name ep en = λ i. record { places = ep i; name = en i }
 
 -- names that are taken
 
-known_by : (v t : Bool) (f g : Found) → is_known f ≡ true → is_known g ≡ t → is_known (cond v f g) ≡ (v || t)
-known_by true t f g e h = e
-known_by false t f g e h = h
-
-pub known-taken : (i : ℕ) (ps : List Predicate) (b : List ℕ) → is_known (find_from i ps b) ≡ taken b (map predicate_text ps)
-unfolding find_from taken
-known-taken i [] b = refl
-known-taken i (p ∷ ps) b =
-    known_by (bytes_eq (name_of p) b) (taken b (map predicate_text ps)) (found i (places_of p.places)) (find_from (suc i) ps b) refl (known-taken (suc i) ps b)
-
-pub meaning-known : (o : Option Sense) → is_some o ≡ is_known (meaning o)
-meaning-known None = refl
-meaning-known (Some x) = refl
+pub taken-map : (b : List ℕ) (ps : List Predicate) → list_any (λ p. bytes_eq (name_of p) b) ps ≡ taken b (map predicate_text ps)
+taken-map b [] = refl
+taken-map b (p ∷ ps) = ap (λ t. bytes_eq (name_of p) b || t) (taken-map b ps)
 
 -- predicates, one at a time
 
@@ -113,47 +79,45 @@ pub left_none : (file : List ℕ) (n k at : ℕ) → n ≤ k → predicates_from
 unfolding predicates_from
 left_none file n k at l = ap (λ m. predicates_from file m at) (let q : n - k ≡ 0 = omega arith in q)
 
-pub left_start : (file : List ℕ) (n at : ℕ) → predicates_from file n at ≡ predicates_from file (n - 0) at
-left_start file n at = ap (λ m. predicates_from file m at) (let q : n ≡ n - 0 = omega arith in q)
-
 pub sound_none : (ps : List PredicateText) → sound_predicates ps [] ≡ true
 unfolding sound_predicates
 sound_none ps = refl
 
 pub sound-bad : (before : List PredicateText) (p : PredicateText) (ps : List PredicateText) → sound_predicate p ≡ false → sound_predicates before (p ∷ ps) ≡ false
 unfolding sound_predicates
-sound-bad before p ps h = and_left _ _ h
+sound-bad before p ps h = search rules
 
 pub sound-taken : (before : List PredicateText) (p : PredicateText) (ps : List PredicateText) → taken p.name before ≡ true → sound_predicates before (p ∷ ps) ≡ false
 unfolding sound_predicates
-sound-taken before p ps h = and_right (sound_predicate p) _ (and_left _ _ (not_from_true (taken p.name before) h))
+sound-taken before p ps h = search rules
 
 pub sound_more : (before : List PredicateText) (p : PredicateText) (ps : List PredicateText) → sound_predicate p ≡ true → taken p.name before ≡ false →
     sound_predicates before (p ∷ ps) ≡ sound_predicates (before ++ p ∷ []) ps
 unfolding sound_predicates
-sound_more before p ps h t =
-    ap (λ v. v && (not (taken p.name before) && sound_predicates (before ++ p ∷ []) ps)) h
-    ∙ ap (λ v. not v && sound_predicates (before ++ p ∷ []) ps) t
+sound_more before p ps h t = search rules
+
+-- what is read next goes from what is left to what was read
+pub moved_over : {A B : Type 0} (f : A → B) (xs : List A) (x : A) (ys : List B) → map f xs ++ (f x ∷ ys) ≡ map f (xs ++ x ∷ []) ++ ys
+moved_over f xs x ys = sym (append_assoc (map f xs) (f x ∷ []) ys) ∙ ap (λ t. t ++ ys) (sym (map_push f xs x))
 
 -- one predicate more in the table
 module _ (file : List ℕ) (n k at next : ℕ) (items : List Predicate) (p : Predicate) (l : k < n) (e : next ≡ at + 2 + byte_at file (at + 1)) (q : predicate_text p ≡ predicate_at file at) where
+  read_next : predicates_from file (n - k) at ≡ predicate_text p ∷ predicates_from file (n - (k + 1)) next
+  read_next = left_more file n k at next l e ∙ ap (λ t. t ∷ predicates_from file (n - (k + 1)) next) (sym q)
+
   pub table_more : map predicate_text items ++ predicates_from file (n - k) at ≡ map predicate_text (items ++ p ∷ []) ++ predicates_from file (n - (k + 1)) next
-  table_more =
-      ap (λ t. map predicate_text items ++ t) (left_more file n k at next l e ∙ ap (λ t. t ∷ predicates_from file (n - (k + 1)) next) (sym q))
-      ∙ (sym (append_assoc (map predicate_text items) (predicate_text p ∷ []) (predicates_from file (n - (k + 1)) next))
-      ∙ ap (λ t. t ++ predicates_from file (n - (k + 1)) next) (sym (map_push predicate_text items p)))
+  table_more = ap (λ t. map predicate_text items ++ t) read_next ∙ moved_over predicate_text items p (predicates_from file (n - (k + 1)) next)
 
   pub test-more : sound_predicate (predicate_at file at) ≡ true → taken (name_of p) (map predicate_text items) ≡ false →
       sound_predicates (map predicate_text items) (predicates_from file (n - k) at) ≡ sound_predicates (map predicate_text (items ++ p ∷ [])) (predicates_from file (n - (k + 1)) next)
   test-more h t =
-      ap (sound_predicates (map predicate_text items)) (left_more file n k at next l e ∙ ap (λ x. x ∷ predicates_from file (n - (k + 1)) next) (sym q))
+      ap (sound_predicates (map predicate_text items)) read_next
       ∙ (sound_more (map predicate_text items) (predicate_text p) (predicates_from file (n - (k + 1)) next) (ap sound_predicate q ∙ h) t
       ∙ ap (λ x. sound_predicates x (predicates_from file (n - (k + 1)) next)) (sym (map_push predicate_text items p)))
 
   pub test-taken : taken (name_of p) (map predicate_text items) ≡ true → sound_predicates (map predicate_text items) (predicates_from file (n - k) at) ≡ false
   test-taken t =
-      ap (sound_predicates (map predicate_text items)) (left_more file n k at next l e ∙ ap (λ x. x ∷ predicates_from file (n - (k + 1)) next) (sym q))
-      ∙ sound-taken (map predicate_text items) (predicate_text p) (predicates_from file (n - (k + 1)) next) t
+      ap (sound_predicates (map predicate_text items)) read_next ∙ sound-taken (map predicate_text items) (predicate_text p) (predicates_from file (n - (k + 1)) next) t
 
 pub test-bad : (file : List ℕ) (n k at : ℕ) (before : List PredicateText) → k < n → sound_predicate (predicate_at file at) ≡ false → sound_predicates before (predicates_from file (n - k) at) ≡ false
 test-bad file n k at before l h =

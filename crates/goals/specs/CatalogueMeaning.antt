@@ -1,14 +1,13 @@
 -- When a whole catalogue is sound, and what reading one from a framed file comes to.
 -- Several operations may be at fault: which of them is named is free.
-use Rattle.std.specs.Prelude.{◌≡◌, ℕ, Bool, true, false, ◌&&◌, List, [], ◌∷◌, MatchOption}
-use Rattle.std.specs.List.{slice_get}
+use Rattle.std.specs.Prelude.{◌≡◌, ℕ, Bool, false, ◌&&◌, List, [], MatchOption}
+use Rattle.std.specs.List.{list_all, slice_get}
 use Rattle.goals.specs.declared.frame.Frame.{Frame}
 use Rattle.goals.specs.Sections.{PredicateText, OperationText, predicates_from, operations_from}
 use Rattle.goals.specs.CatalogueRules.{sound_counts, sound_predicates, sound_operation}
 
-unfoldable pub sound_operations : ℕ → List PredicateText → List OperationText → Bool
-sound_operations ids ps [] = true
-sound_operations ids ps (o ∷ os) = sound_operation ids ps o && sound_operations ids ps os
+abbrev pub sound_operations : ℕ → List PredicateText → List OperationText → Bool
+sound_operations ids ps os = list_all (sound_operation ids ps) os
 
 -- the predicates and operations of a framed file
 abbrev pub predicates_of : List ℕ → Frame → List PredicateText

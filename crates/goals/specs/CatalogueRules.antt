@@ -1,6 +1,7 @@
 -- The rules of a catalogue: which counts, predicates, names, operations and entries are allowed.
 -- What breaks a rule of counts, predicates or names is refused with 1, what breaks one of an operation with 2.
-use Rattle.std.specs.Prelude.{ℕ, ◌-◌, Bool, true, false, cond, not, ◌&&◌, ◌||◌, List, [], ◌∷◌, ◌++◌, length, ◌==◌, nat_le, nat_lt, slice_index_or}
+use Rattle.std.specs.Prelude.{ℕ, ◌-◌, Bool, true, false, cond, not, ◌&&◌, List, [], ◌∷◌, ◌++◌, length, ◌==◌, nat_le, nat_lt, slice_index_or}
+use Rattle.std.specs.List.{list_all, list_any}
 use Rattle.std.specs.Str.{bytes_eq}
 use Rattle.goals.specs.Tokens.{is_letter}
 use Rattle.goals.specs.Sections.{PredicateText, EntryText, OperationText}
@@ -10,9 +11,8 @@ abbrev pub sound_counts : ℕ → ℕ → ℕ → Bool
 sound_counts ids predicates operations =
     (nat_le 1 ids && nat_le ids 128) && ((nat_le 1 predicates && nat_le predicates 16) && nat_le operations 64)
 
-unfoldable pub all_letters : List ℕ → Bool
-all_letters [] = true
-all_letters (b ∷ bs) = is_letter b && all_letters bs
+abbrev pub all_letters : List ℕ → Bool
+all_letters bs = list_all is_letter bs
 
 -- a name is 1 to 16 small letters
 abbrev pub sound_name : List ℕ → Bool
@@ -22,9 +22,8 @@ abbrev pub sound_predicate : PredicateText → Bool
 sound_predicate p = nat_le p.places 2 && sound_name p.name
 
 -- does one of the predicates have the name?
-unfoldable pub taken : List ℕ → List PredicateText → Bool
-taken name [] = false
-taken name (p ∷ ps) = bytes_eq p.name name || taken name ps
+abbrev pub taken : List ℕ → List PredicateText → Bool
+taken name ps = list_any (λ p. bytes_eq p.name name) ps
 
 -- each predicate is sound, and has no name that one before it has
 unfoldable pub sound_predicates : List PredicateText → List PredicateText → Bool
@@ -50,9 +49,8 @@ sound_entry need ids ps parameters e =
     && (sound_term (nat_le 1 (places_in ps (predicate_number need e.predicate))) ids parameters e.first
     && sound_term (nat_le 2 (places_in ps (predicate_number need e.predicate))) ids parameters e.second)
 
-unfoldable pub sound_each : Bool → ℕ → List PredicateText → ℕ → List EntryText → Bool
-sound_each need ids ps parameters [] = true
-sound_each need ids ps parameters (e ∷ es) = sound_entry need ids ps parameters e && sound_each need ids ps parameters es
+abbrev pub sound_each : Bool → ℕ → List PredicateText → ℕ → List EntryText → Bool
+sound_each need ids ps parameters es = list_all (sound_entry need ids ps parameters) es
 
 -- at most six entries of a kind
 abbrev pub sound_entries : Bool → ℕ → List PredicateText → ℕ → List EntryText → Bool

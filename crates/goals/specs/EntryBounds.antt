@@ -1,6 +1,7 @@
 -- Operations that keep within a catalogue's bounds: at most three parameters, a span of at most 1,000 hours, and in each
 -- entry a predicate below 16 and terms that are ids below N or parameters that the operation has.
-use Rattle.std.specs.Prelude.{◌≡◌, ℕ, Bool, true, ◌&&◌, List, [], ◌∷◌, nat_le, nat_lt}
+use Rattle.std.specs.Prelude.{◌≡◌, ℕ, Bool, true, ◌&&◌, List, nat_le, nat_lt}
+use Rattle.std.specs.List.{list_all}
 use Rattle.goals.specs.declared.operation.EntryTerm.{EntryTerm}
 use Rattle.goals.specs.declared.operation.EntryTerm.TheVariants.{Id, Parameter}
 use Rattle.goals.specs.declared.operation.Entry.{Entry}
@@ -16,8 +17,7 @@ entry_inside ids parameters e =
     nat_lt e.predicate 16 && (term_inside ids parameters e.first && term_inside ids parameters e.second)
 
 unfoldable pub entries_inside : ℕ → ℕ → List Entry → Bool
-entries_inside ids parameters [] = true
-entries_inside ids parameters (e ∷ es) = entry_inside ids parameters e && entries_inside ids parameters es
+entries_inside ids parameters es = list_all (entry_inside ids parameters) es
 
 unfoldable pub operation_inside : ℕ → Operation → Bool
 operation_inside ids o =
@@ -30,6 +30,5 @@ operation_inside ids o =
 abbrev pub Inside : ℕ → Operation → Type 0
 Inside ids o = operation_inside ids o ≡ true
 
-unfoldable pub operations_inside : ℕ → List Operation → Bool
-operations_inside ids [] = true
-operations_inside ids (o ∷ os) = operation_inside ids o && operations_inside ids os
+abbrev pub operations_inside : ℕ → List Operation → Bool
+operations_inside ids os = list_all (operation_inside ids) os

@@ -11,6 +11,7 @@ pub mod Entries
 pub mod EntryBounds
 pub mod CatalogueMeaning
 pub mod CatalogueReading
+pub mod EntryReading
 pub mod Syntax
 pub mod Grammar
 pub mod Scopes
@@ -26,7 +27,6 @@ pub mod GoalTable
 pub mod GoalClaims
 pub mod JobText
 pub mod JobReading
-pub mod Placing
 pub mod SoundJob
 pub mod JobView
 pub mod NodeTable

@@ -5,13 +5,14 @@ ghost use Rattle.goals.specs.Bytes.{byte_at, word_at};
 pub(crate) fn byte_at(bytes: &[u8], at: usize) -> u8
     ensures { result ≡ byte_at bytes.now at }
 {
-    if at < bytes.len() { bytes[at] } else { 0 }
+    bytes.get(at).copied().unwrap_or(0)
 }
 
 // The number in two bytes, the high byte first.
+// A place is a plain number here and where entries are read: each function goes a little further on, so no one bound serves all as a type.
 pub(crate) fn word_at(bytes: &[u8], at: usize) -> u16
     requires { at < 1000000 }
     ensures { result ≡ word_at bytes.now at }
 {
-    u16::from(byte_at(bytes, at)) * 256 + u16::from(byte_at(bytes, at + 1))
+    u16::from_be_bytes([byte_at(bytes, at), byte_at(bytes, at + 1)])
 }

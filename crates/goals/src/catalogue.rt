@@ -1,4 +1,4 @@
-ghost use Rattle.std.specs.Prelude.{◌≡◌, ℕ, ◌+◌, ◌*◌, ◌<◌, ◌≤◌, true, false, ◌&&◌, List, [], map, length, vec_len, vec_capacity};
+ghost use Rattle.std.specs.Prelude.{◌≡◌, ◌≤◌, true, [], map, vec_len, vec_capacity};
 ghost use Rattle.goals.specs.CatalogueRules.{sound_counts, sound_predicates};
 ghost use Rattle.goals.specs.Entries.{predicate_text, operation_text};
 ghost use Rattle.goals.specs.CatalogueMeaning.{sound_operations};
@@ -8,7 +8,11 @@ use crate::operation::Operation;
 use crate::predicate::Predicate;
 use std::alloc::{AllocError, Global};
 
-// Room for the largest catalogue: 16 predicates and 64 operations.
+pub(crate) const MOST_PREDICATES: u8 = 16;
+
+pub(crate) const MOST_OPERATIONS: u8 = 64;
+
+// Room for the largest catalogue.
 #[derive(Drop)]
 pub struct CatalogueRoom {
     pub(crate) predicates: Vec<Predicate>,
@@ -21,8 +25,8 @@ pub struct CatalogueRoom {
 
 impl CatalogueRoom {
     pub fn new(heap: Global) -> Result<CatalogueRoom, AllocError> {
-        let predicates = Vec::with_capacity(heap, 16)?;
-        let operations = Vec::with_capacity(heap, 64)?;
+        let predicates = Vec::with_capacity(heap, usize::from(MOST_PREDICATES))?;
+        let operations = Vec::with_capacity(heap, usize::from(MOST_OPERATIONS))?;
         Ok(CatalogueRoom {
             predicates,
             operations,

@@ -11,6 +11,7 @@ pub enum CatalogueFault {
 }
 
 impl CatalogueFault {
+    // A method, as on every fault: nothing is generic over faults, so a trait would have no use, and `u8::from` doesn't say what it gives.
     pub fn number(self) -> u8
         ensures { result ≡ catalogue_number self }
     {

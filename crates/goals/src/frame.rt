@@ -1,5 +1,5 @@
-ghost use Rattle.std.specs.Prelude.{◌≡◌, ℕ, ◌+◌, ◌*◌, ◌<◌, ◌≤◌, length};
-ghost use Rattle.goals.specs.Bytes.{byte_at, word_at};
+ghost use Rattle.std.specs.Prelude.{◌≡◌, ◌+◌, ◌*◌, ◌<◌, ◌≤◌, length};
+ghost use Rattle.goals.specs.Bytes.{byte_at};
 ghost use Rattle.goals.specs.Frame.{marked, predicates_end, operations_end, frame_of, framed};
 
 use crate::bytes::{byte_at, word_at};
@@ -27,7 +27,19 @@ pub struct Frame {
     pub end: usize,
 }
 
+// A file with its frame: its sections lie in it, one behind the other.
+#[derive(Clone, Copy)]
+pub(crate) struct FramedFile<'a> {
+    pub bytes: &'a [u8],
+    pub frame: Frame,
+    ghost operations_near: { frame.operations_at ≤ 40000 },
+    ghost goal_first: { frame.goal_at ≤ frame.steps_at },
+    ghost goal_end: { frame.steps_at ≤ length bytes.now },
+    ghost goal_long: { frame.steps_at ≡ frame.goal_at + frame.goal_length },
+}
+
 // Reads the frame: the mark and the version, then the length against the counts.
+#[tactic(auto, unfolding(crate::specs::Frame::framed, crate::specs::Frame::length_checked))]
 pub fn read_frame(file: &[u8]) -> Result<Frame, FrameFault>
     ensures { result ≡ framed file.now }
 {
@@ -38,24 +50,21 @@ pub fn read_frame(file: &[u8]) -> Result<Frame, FrameFault>
         return Err(FrameFault::Length(LONGEST_FILE));
     }
     let frame = walk(file);
-    if file.len() < frame.end {
-        return Err(FrameFault::Length(file.len()));
-    }
-    if file.len() > frame.end {
-        return Err(FrameFault::Length(frame.end));
+    if file.len() != frame.end {
+        return Err(FrameFault::Length(file.len().min(frame.end)));
     }
     Ok(frame)
 }
 
+// The letters E, D and P, and the version 1.
 fn is_marked(file: &[u8]) -> bool
     ensures { result ≡ marked file.now }
 {
-    file.len() >= 5
-        && (byte_at(file, 0) == b'E'
-            && (byte_at(file, 1) == b'D' && (byte_at(file, 2) == b'P' && word_at(file, 3) == 1)))
+    file.starts_with(b"EDP\x00\x01")
 }
 
 // The frame by the counts as they stand.
+#[tactic(auto, unfolding(crate::specs::Frame::frame_of))]
 fn walk(file: &[u8]) -> Frame
     requires { length file.now ≤ 40000 }
     ensures { result ≡ frame_of file.now }
@@ -84,6 +93,7 @@ fn walk(file: &[u8]) -> Frame
     }
 }
 
+// Two loops: the sum in a fold's closure isn't proved to fit, as nothing bounds the place it is handed; a trait of items is longer.
 pub(crate) fn end_of_predicates(file: &[u8], count: u8) -> usize
     ensures value { result ≡ predicates_end file.now count 14 }
     ensures bound { result ≤ 14 + 257 * count }

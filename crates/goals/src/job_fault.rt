@@ -25,10 +25,10 @@ impl GoalFault {
     {
         match self {
             GoalFault::TooLong => None,
-            GoalFault::Follow(place) => Some(place),
-            GoalFault::Unknown(place) => Some(place),
-            GoalFault::Range(place) => Some(place),
-            GoalFault::Limit(place) => Some(place),
+            GoalFault::Follow(place)
+            | GoalFault::Unknown(place)
+            | GoalFault::Range(place)
+            | GoalFault::Limit(place) => Some(place),
         }
     }
 }

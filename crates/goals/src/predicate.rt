@@ -1,14 +1,24 @@
-ghost use Rattle.std.specs.Prelude.{◌≡◌, ℕ, ◌+◌, ◌<◌, ◌≤◌, length, take};
+ghost use Rattle.std.specs.Prelude.{◌≡◌, take, position};
 ghost use Rattle.std.specs.Str.{bytes_eq};
 ghost use Rattle.goals.specs.Vocabulary.{name_of, find_from};
 ghost use Rattle.goals.specs.Meanings.{meaning};
 
 // A predicate of a catalogue: how many terms it takes, and its name, whose letters are the first `length` of `name`.
+// The array is fixed, with its length beside it: a predicate is `Copy`, and no memory is asked for after the rooms are made.
 #[derive(Clone, Copy)]
 pub struct Predicate {
     pub places: u8,
     pub name: [u8; 16],
     pub length: usize,
+}
+
+impl Predicate {
+    // The letters of its name.
+    pub(crate) fn letters(&self) -> &[u8]
+        ensures { result.now ≡ name_of self.now }
+    {
+        &self.name[..self.length.min(16)]
+    }
 }
 
 // The predicate that a name means, and how many terms it takes.
@@ -18,26 +28,22 @@ pub struct Sense {
     pub places: u8,
 }
 
-fn bears(predicate: &Predicate, name: &[u8]) -> bool
-    ensures { result ≡ bytes_eq (name_of predicate.now) name.now }
+// The number of the first predicate with a name.
+fn number_of(predicates: &[Predicate], name: &[u8]) -> Option<usize>
+    ensures { result ≡ position (λ p. bytes_eq (name_of p) name.now) predicates.now }
 {
-    let length = predicate.length.min(16);
-    &predicate.name[0..length] == name
+    predicates
+        .iter()
+        .position(|predicate| predicate.letters() == name)
 }
 
 // The first predicate with a name; a predicate's number is a byte.
 pub fn find(predicates: &[Predicate], name: &[u8]) -> Option<Sense>
     ensures { find_from 0 (take 256 predicates.now) name.now ≡ meaning result }
 {
-    let mut at = 0;
-    while at < predicates.len() && at < 256 {
-        if bears(&predicates[at], name) {
-            return Some(Sense {
-                predicate: at as u8,
-                places: predicates[at].places,
-            });
-        }
-        at += 1;
-    }
-    None
+    let number = number_of(predicates, name)?;
+    Some(Sense {
+        predicate: u8::try_from(number).ok()?,
+        places: predicates[number].places,
+    })
 }

@@ -1,79 +1,71 @@
-ghost use Rattle.std.specs.Prelude.{◌≡◌, ℕ, ◌+◌, ◌*◌, ◌<◌, ◌≤◌, true, false, List, [], map, length, vec_len, vec_capacity, MatchBool, MatchResult};
+ghost use Rattle.std.specs.Prelude.{◌≡◌, ◌≤◌, true, false, [], map, vec_len, vec_capacity, MatchResult};
+ghost use Rattle.std.specs.List.{list_any};
+ghost use Rattle.std.specs.Str.{bytes_eq};
 ghost use Rattle.goals.specs.Vocabulary.{name_of};
-ghost use Rattle.goals.specs.Sections.{predicates_from, operations_from};
-ghost use Rattle.goals.specs.CatalogueRules.{taken, sound_counts, sound_predicates};
-ghost use Rattle.goals.specs.CatalogueMeaning.{sound_operations, AtFault};
+ghost use Rattle.goals.specs.Sections.{predicates_from};
+ghost use Rattle.goals.specs.CatalogueRules.{sound_counts, sound_predicates};
 ghost use Rattle.goals.specs.CatalogueReading.{CatalogueSays};
-ghost use Rattle.goals.specs.EntryBounds.{operations_inside};
-ghost use Rattle.goals.specs.Entries.{predicate_text, operation_text};
+ghost use Rattle.goals.specs.EntryReading.{OperationsSay};
+ghost use Rattle.goals.specs.Entries.{predicate_text};
 
-use crate::catalogue::{Catalogue, CatalogueRoom};
+use crate::catalogue::{Catalogue, CatalogueRoom, MOST_OPERATIONS, MOST_PREDICATES};
 use crate::catalogue_fault::CatalogueFault;
-use crate::frame::{Frame, PREDICATES_AT, entries};
+use crate::frame::{Frame, FramedFile, PREDICATES_AT, entries};
 use crate::operation::Operation;
-use crate::predicate::{Predicate, find};
-use crate::read_operation::read_operation;
+use crate::predicate::Predicate;
+use crate::read_operation::OperationReader;
 use crate::read_predicate::read_predicate;
 
 // Does one of the predicates have the name?
-fn is_taken(predicates: &[Predicate], predicate: &Predicate) -> bool
-    requires few { length predicates.now ≤ 256 }
-    requires short { predicate.now.length ≤ 16 }
-    ensures { result ≡ taken (name_of predicate.now) (map predicate_text predicates.now) }
+fn is_taken(predicates: &[Predicate], name: &[u8]) -> bool
+    ensures { result ≡ list_any (λ p. bytes_eq (name_of p) name.now) predicates.now }
 {
-    find(predicates, &predicate.name[0..predicate.length]).is_some()
+    predicates
+        .iter()
+        .any(|predicate| predicate.letters() == name)
 }
 
-// Reads the predicates; false if one of them breaks a rule or has a name that one before it has.
-fn read_predicates(file: &[u8], count: u8, predicates: &mut Vec<Predicate>) -> bool
+// Reads the predicates; a fault if one of them breaks a rule or has a name that one before it has.
+fn read_predicates(
+    file: &[u8],
+    count: u8,
+    predicates: &mut Vec<Predicate>,
+) -> Result<(), CatalogueFault>
     requires none { vec_len predicates.old ≡ 0 }
     requires room { 16 ≤ vec_capacity predicates.old }
     requires few { count ≤ 16 }
-    ensures { MatchBool result
-        ((map predicate_text predicates.new.items ≡ predicates_from file.now count 14) × (sound_predicates [] (predicates_from file.now count 14) ≡ true))
-        (sound_predicates [] (predicates_from file.now count 14) ≡ false) }
+    ensures { MatchResult result
+        (λ _. (map predicate_text predicates.new.items ≡ predicates_from file.now count 14) × (sound_predicates [] (predicates_from file.now count 14) ≡ true))
+        (λ fault. (fault ≡ CatalogueFault.Shape) × (sound_predicates [] (predicates_from file.now count 14) ≡ false)) }
 {
     let mut at = PREDICATES_AT;
     for _ in 0..count {
-        let Some(predicate) = read_predicate(file, at) else {
-            return false;
-        };
-        if is_taken(predicates, &predicate) {
-            return false;
+        let predicate = read_predicate(file, at).ok_or(CatalogueFault::Shape)?;
+        if is_taken(predicates, predicate.letters()) {
+            return Err(CatalogueFault::Shape);
         }
         at += 2 + predicate.length;
         predicates.push_reserved(predicate);
     }
-    true
+    Ok(())
 }
 
-// Reads the operations; else the number of one that breaks a rule.
+// Reads the operations; else the fault names one that breaks a rule.
 fn read_operations(
-    file: &[u8],
-    start: usize,
-    count: u8,
-    ids: u8,
-    predicates: &[Predicate],
+    reader: OperationReader<'_>,
+    frame: Frame,
     operations: &mut Vec<Operation>,
-) -> Result<(), u8>
+) -> Result<(), CatalogueFault>
     requires none { vec_len operations.old ≡ 0 }
     requires room { 64 ≤ vec_capacity operations.old }
-    requires few { count ≤ 64 }
-    requires near { start ≤ 40000 }
-    requires some { 0 < ids }
-    requires named { length predicates.now ≤ 16 }
-    ensures { MatchResult result
-        (λ _. (map operation_text operations.new.items ≡ operations_from file.now count start)
-        × (sound_operations ids (map predicate_text predicates.now) (operations_from file.now count start) ≡ true)
-        × (operations_inside ids operations.new.items ≡ true))
-        (λ k. AtFault ids (map predicate_text predicates.now) (operations_from file.now count start) k) }
+    requires few { frame.operations ≤ 64 }
+    requires near { frame.operations_at ≤ 40000 }
+    ensures { OperationsSay reader.entry frame operations.new.items result }
 {
-    let mut at = start;
-    for k in 0..count {
-        let Some(operation) = read_operation(file, at, ids, predicates) else {
-            return Err(k);
-        };
-        at += 6 + 3 * entries(file, at);
+    let mut at = frame.operations_at;
+    for k in 0..frame.operations {
+        let operation = reader.read(at).ok_or(CatalogueFault::Operation(k))?;
+        at += 6 + 3 * entries(reader.file, at);
         operations.push_reserved(operation);
     }
     Ok(())
@@ -83,26 +75,21 @@ fn read_operations(
 fn counts_in_limits(frame: Frame) -> bool
     ensures { result ≡ sound_counts frame.ids frame.predicates frame.operations }
 {
-    (frame.ids >= 1 && frame.ids <= MOST_IDS)
-        && ((frame.predicates >= 1 && frame.predicates <= MOST_PREDICATES)
-            && frame.operations <= MOST_OPERATIONS)
+    (1..=MOST_IDS).contains(&frame.ids)
+        && (1..=MOST_PREDICATES).contains(&frame.predicates)
+        && frame.operations <= MOST_OPERATIONS
 }
 
 const MOST_IDS: u8 = 128;
 
-const MOST_PREDICATES: u8 = 16;
-
-const MOST_OPERATIONS: u8 = 64;
-
 // Reads the catalogue of a framed file: refused with 1 for its counts, predicates and names, then with 2 for an operation.
 pub(crate) fn read_catalogue(
-    file: &[u8],
-    frame: Frame,
+    file: FramedFile<'_>,
     room: CatalogueRoom,
 ) -> Result<Catalogue, CatalogueFault>
-    requires { frame.operations_at ≤ 40000 }
-    ensures { CatalogueSays file.now frame result }
+    ensures { CatalogueSays file.entry.bytes.now file.entry.frame result }
 {
+    let frame = file.frame;
     if !counts_in_limits(frame) {
         return Err(CatalogueFault::Shape);
     }
@@ -110,19 +97,13 @@ pub(crate) fn read_catalogue(
         mut predicates,
         mut operations,
     } = room;
-    if !read_predicates(file, frame.predicates, &mut predicates) {
-        return Err(CatalogueFault::Shape);
-    }
-    if let Err(number) = read_operations(
-        file,
-        frame.operations_at,
-        frame.operations,
-        frame.ids,
-        predicates.as_slice(),
-        &mut operations,
-    ) {
-        return Err(CatalogueFault::Operation(number));
-    }
+    read_predicates(file.bytes, frame.predicates, &mut predicates)?;
+    let reader = OperationReader {
+        file: file.bytes,
+        ids: frame.ids,
+        predicates: &predicates,
+    };
+    read_operations(reader, frame, &mut operations)?;
     Ok(Catalogue {
         ids: frame.ids,
         predicates,

@@ -1,11 +1,8 @@
-ghost use Rattle.std.specs.Prelude.{◌≡◌, ◌-◌, ◌≤◌, length, take, drop, Ok, Err};
-ghost use Rattle.goals.specs.Frame.{framed};
 ghost use Rattle.goals.specs.JobReading.{FramedSays, BothSays, JobSays, FillSays};
-ghost use Rattle.goals.specs.Placing.{placed_of};
 
-use crate::file_fault::{FileFault, PlacedFault};
+use crate::file_fault::FileFault;
 use crate::fill_fault::FillFault;
-use crate::frame::{Frame, read_frame};
+use crate::frame::{Frame, FramedFile, read_frame};
 use crate::job::{Job, JobRoom};
 use crate::job_fault::JobFault;
 use crate::put_facts::put_facts;
@@ -20,23 +17,13 @@ pub(crate) struct FramedJob {
     pub job: Job,
 }
 
-// The bytes from one place to another.
-fn part(file: &[u8], start: usize, end: usize) -> &[u8]
-    requires ordered { start ≤ end }
-    requires inside { end ≤ length file.now }
-    ensures { result.now ≡ take (end - start) (drop start file.now) }
-{
-    &file[start..end]
-}
-
 // The job of a framed file: its catalogue, then its goal.
-fn job_of(file: &[u8], frame: Frame, room: JobRoom) -> Result<Job, JobFault>
-    requires { Ok frame ≡ framed file.now }
-    ensures { FramedSays file.now frame result }
+fn job_of(file: FramedFile<'_>, room: JobRoom) -> Result<Job, JobFault>
+    ensures { FramedSays file.entry.bytes.now file.entry.frame result }
 {
     let JobRoom { catalogue, goal } = room;
-    let catalogue = read_catalogue(file, frame, catalogue)?;
-    let text = part(file, frame.goal_at, frame.steps_at);
+    let catalogue = read_catalogue(file, catalogue)?;
+    let text = &file.bytes[file.frame.goal_at..file.frame.steps_at];
     let goal = read_goal(
         text,
         u16::from(catalogue.ids),
@@ -46,21 +33,12 @@ fn job_of(file: &[u8], frame: Frame, room: JobRoom) -> Result<Job, JobFault>
     Ok(Job { catalogue, goal })
 }
 
-// A fault goes on with the place at which the goal text begins.
-fn placed(res: Result<Job, JobFault>, goal_at: usize) -> Result<Job, PlacedFault>
-    ensures { result ≡ placed_of res goal_at }
+fn read_both(bytes: &[u8], room: JobRoom) -> Result<FramedJob, FileFault>
+    ensures { BothSays bytes.now result }
 {
-    match res {
-        Ok(job) => Ok(job),
-        Err(fault) => Err(PlacedFault { fault, goal_at }),
-    }
-}
-
-fn read_both(file: &[u8], room: JobRoom) -> Result<FramedJob, FileFault>
-    ensures { BothSays file.now result }
-{
-    let frame = read_frame(file)?;
-    let job = placed(job_of(file, frame, room), frame.goal_at)?;
+    let frame = read_frame(bytes)?;
+    let file = FramedFile { bytes, frame };
+    let job = job_of(file, room).map_err(|fault| FileFault::Job(fault, frame.goal_at))?;
     Ok(FramedJob { frame, job })
 }
 
@@ -68,8 +46,7 @@ fn read_both(file: &[u8], room: JobRoom) -> Result<FramedJob, FileFault>
 pub fn read_job(file: &[u8], room: JobRoom) -> Result<Job, FileFault>
     ensures { JobSays file.now result }
 {
-    let FramedJob { frame: _, job } = read_both(file, room)?;
-    Ok(job)
+    Ok(read_both(file, room)?.job)
 }
 
 // Reads the job of an edition file and puts every fact of the file into a register, whatever it holds already, or none:

@@ -1,8 +1,7 @@
 ghost use Rattle.std.specs.Prelude.{◌≡◌, ◌+◌, ◌<◌, ◌≤◌, true, false, ◌&&◌, MatchOption, nat_le};
 ghost use Rattle.goals.specs.Bytes.{byte_at};
-ghost use Rattle.goals.specs.Tokens.{is_letter};
 ghost use Rattle.goals.specs.Sections.{predicate_at};
-ghost use Rattle.goals.specs.CatalogueRules.{sound_predicate};
+ghost use Rattle.goals.specs.CatalogueRules.{all_letters, sound_predicate};
 ghost use Rattle.goals.specs.Entries.{predicate_text};
 
 use crate::bytes::byte_at;
@@ -14,17 +13,17 @@ const LONGEST_NAME: usize = 16;
 // No predicate has more places.
 const MOST_PLACES: u8 = 2;
 
-fn is_small_letter(byte: u8) -> bool
-    ensures { result ≡ is_letter byte }
+fn are_letters(bytes: &[u8]) -> bool
+    ensures { result ≡ all_letters bytes.now }
 {
-    byte >= b'a' && byte <= b'z'
+    bytes.iter().all(|byte| byte.is_ascii_lowercase())
 }
 
 // At most two places, and a name of 1 to 16 letters.
 fn in_limits(places: u8, length: usize) -> bool
     ensures { result ≡ (nat_le places 2 && (nat_le 1 length && nat_le length 16)) }
 {
-    places <= MOST_PLACES && (length >= 1 && length <= LONGEST_NAME)
+    places <= MOST_PLACES && (1..=LONGEST_NAME).contains(&length)
 }
 
 // The predicate at a place, or nothing if its places or its name break a rule.
@@ -38,14 +37,12 @@ pub(crate) fn read_predicate(file: &[u8], at: usize) -> Option<Predicate>
     if !in_limits(places, length) {
         return None;
     }
-    let mut name = [0u8; 16];
-    for k in 0..length {
-        let byte = byte_at(file, at + 2 + k);
-        if !is_small_letter(byte) {
-            return None;
-        }
-        name[k] = byte;
+    let letters = file.get(at + 2..at + 2 + length)?;
+    if !are_letters(letters) {
+        return None;
     }
+    let mut name = [0; LONGEST_NAME];
+    name[..length].copy_from_slice(letters);
     Some(Predicate {
         places,
         name,

@@ -6,9 +6,10 @@ use Rattle.goals.proofs.read_catalogue.read_predicates.Given as goal
 
 -- the predicates read so far and those left are those of the file, and what is left to test decides
 abbrev pub invariant-loop : goal.invariant-loop
-invariant-loop l =
-    (predicates_from l.file l.count 14 ≡ map predicate_text (vec_items l.predicates) ++ predicates_from l.file (l.count - l.counter) l.at)
-    × (sound_predicates [] (predicates_from l.file l.count 14) ≡ sound_predicates (map predicate_text (vec_items l.predicates)) (predicates_from l.file (l.count - l.counter) l.at))
-    × (vec_len l.predicates ≡ l.counter)
-    × (16 ≤ vec_capacity l.predicates)
-    × (l.at ≤ 14 + 257 * l.counter)
+invariant-loop l = record {
+  texts : predicates_from l.file l.count 14 ≡ map predicate_text (vec_items l.predicates) ++ predicates_from l.file (l.count - l.counter) l.at;
+  test : sound_predicates [] (predicates_from l.file l.count 14) ≡ sound_predicates (map predicate_text (vec_items l.predicates)) (predicates_from l.file (l.count - l.counter) l.at);
+  count : vec_len l.predicates ≡ l.counter;
+  room : 16 ≤ vec_capacity l.predicates;
+  near : l.at ≤ 14 + 257 * l.counter;
+}

@@ -1,50 +1,36 @@
-use Rattle.std.proofs.Common.{◌≡◌, ◌+◌, min, true, false, ◌&&◌, leb, take, sym, refl, ap, ◌∙◌, arith, length-set}
-use Rattle.std.proofs.lemmas.Bool.{and_left, and_right, and_from, and_parts, leb-true}
+use Rattle.std.proofs.Common.{◌≡◌, ℕ, ◌+◌, ◌≤◌, List, ◌++◌, length, take, min, ap, ◌∙◌, arith}
+use Rattle.std.proofs.lemmas.List.{take-append-le, take_all}
 use Rattle.goals.specs.Bytes.{byte_at}
-use Rattle.goals.specs.Tokens.{is_letter}
-use Rattle.goals.specs.Sections.{bytes_at, predicate_at}
-use Rattle.goals.proofs.PredicateSteps.{predicate-sound, predicate_back, letters-start, letters-more, letters-all, no_bytes, name-more}
+use Rattle.goals.specs.Sections.{predicate_at, bytes_at}
+use Rattle.std.proofs.lemmas.Bool.Decides.{nat_tests}
+use Rattle.goals.proofs.PredicateSteps.{bytes_count, predicate_back, letters_past, range-bytes}
 use Rattle.goals.proofs.read_predicate.read_predicate.Goals as goal
 
 pub returns-then-not-in_limits : goal.returns-then-not-in_limits
-returns-then-not-in_limits c =
-    predicate-sound c.args.file.now c.args.at c.from-length.result (c.from-length.ensures ∙ c.byte_at.ensures)
-    ∙ and_left _ _ (ap (λ t. leb t 2 && (leb 1 c.from-length.result && leb c.from-length.result 16)) (sym c.byte_at-places.ensures) ∙ sym c.if-not-in_limits.ensures)
+returns-then-not-in_limits c = grind (arith, bytes_count)
 
-pub loop-k-init : goal.loop-k-init
-loop-k-init c = (no_bytes c.args.file.now (c.args.at + 2), letters-start c.args.file.now c.from-length.result (c.args.at + 2), refl)
+pub returns-in_err-letters : goal.returns-in_err-letters
+returns-in_err-letters c = rw c.from_residual.ensures (grind (arith, nat_tests, bytes_count, letters_past))
 
-pub returns-then-not-is_small_letter : goal.returns-then-not-is_small_letter
-returns-then-not-is_small_letter c =
-    predicate-sound c.args.file.now c.args.at c.from-length.result (c.from-length.ensures ∙ c.byte_at.ensures)
-    ∙ and_right (leb (byte_at c.args.file.now c.args.at) 2 && (leb 1 c.from-length.result && leb c.from-length.result 16)) _
-    (c.loop-k.invariant.1
-    ∙ letters-more c.args.file.now c.from-length.result c.loop-k.k (c.args.at + 2) false c.loop-k-test.true
-    (c.if-not-is_small_letter.ensures ∙ ap is_letter c.byte_at-byte.ensures))
+pub returns-then-not-are_letters : goal.returns-then-not-are_letters
+returns-then-not-are_letters c = grind (arith, bytes_count, range-bytes)
 
-pub loop-k-preserved : goal.loop-k-preserved
-loop-k-preserved c =
-    let l = leb-true c.from-length.result 16 (and_parts (leb 1 c.from-length.result) _ (and_parts (leb c.byte_at-places.result 2) _ (sym c.if-not-in_limits.ensures)).1).1 in (
-      name-more c.loop-k.name c.loop-k.k c.byte_at-byte.result c.args.file.now (c.args.at + 2) (omega (arith, l, c.loop-k.invariant.2)) c.loop-k.invariant.0 c.byte_at-byte.ensures,
-      c.loop-k.invariant.1
-          ∙ letters-more c.args.file.now c.from-length.result c.loop-k.k (c.args.at + 2) true c.loop-k-test.true
-          (c.if-not-is_small_letter.ensures ∙ ap is_letter c.byte_at-byte.ensures),
-      length-set c.loop-k.name c.loop-k.k c.byte_at-byte.result ∙ c.loop-k.invariant.2,
-    )
+-- the name in use is what was written in front
+name_written : (xs ys : List ℕ) (n : ℕ) → length xs ≡ n → n ≤ 16 → take (min n 16) (xs ++ ys) ≡ xs
+name_written xs ys n e l = take-append-le (min n 16) xs ys (omega arith) ∙ take_all (min n 16) xs (omega arith)
 
 pub returns : goal.returns
 returns c =
-    let l = leb-true c.from-length.result 16 (and_parts (leb 1 c.from-length.result) _ (and_parts (leb c.byte_at-places.result 2) _ (sym c.if-not-in_limits.ensures)).1).1 in
-    let k : c.loop-k.k ≡ c.from-length.result = omega arith in
-    let m : min c.from-length.result 16 ≡ c.loop-k.k = omega arith in (
+    let few : c.from-length.result ≤ 16 = grind (arith, nat_tests) in
+    let read = c.in_ok-letters.ensures.lookup.0 in
+    let same : c.from-length.result ≡ byte_at c.args.file.now (c.args.at + 1) = c.from-length.ensures ∙ c.byte_at.ensures in (
       predicate_back (predicate_at c.args.file.now c.args.at) c.byte_at-places.result _ c.byte_at-places.ensures
-          (ap (λ n. take n c.loop-k.name) m
-          ∙ (c.loop-k.invariant.0
-          ∙ ap (λ n. bytes_at c.args.file.now n (c.args.at + 2)) (k ∙ (c.from-length.ensures ∙ c.byte_at.ensures)))),
-      predicate-sound c.args.file.now c.args.at c.from-length.result (c.from-length.ensures ∙ c.byte_at.ensures)
-          ∙ and_from _ _
-          (ap (λ t. leb t 2 && (leb 1 c.from-length.result && leb c.from-length.result 16)) (sym c.byte_at-places.ensures) ∙ sym c.if-not-in_limits.ensures)
-          (c.loop-k.invariant.1 ∙ letters-all c.args.file.now c.from-length.result c.loop-k.k (c.args.at + 2) c.loop-k-test.false),
-      l,
-      c.from-length.ensures ∙ c.byte_at.ensures,
+          (name_written c.copy_from_slice.new.self _ c.from-length.result (omega (arith, ap length c.copy_from_slice.ensures.after, read.3)) few
+          ∙ c.copy_from_slice.ensures.after
+          ∙ read.2
+          ∙ range-bytes c.args.file.now c.from-length.result (c.args.at + 2) read.1
+          ∙ ap (λ m. bytes_at c.args.file.now m (c.args.at + 2)) same),
+      grind (arith, bytes_count, range-bytes),
+      few,
+      same,
     )

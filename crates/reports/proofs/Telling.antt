@@ -1,5 +1,5 @@
 -- The text of a schedule's answers is its report.
-use Rattle.std.proofs.Common.{◌≡◌, ℕ, Bool, true, cond, List, [], ◌∷◌, ◌++◌, length, Some, Ok, Err, Result, sym, refl, ap, ◌∙◌, subst, append_assoc, append-nil, arith}
+use Rattle.std.proofs.Common.{◌≡◌, ℕ, Bool, true, cond, List, [], ◌∷◌, ◌++◌, length, Some, Ok, Err, Result, sym, refl, ap, ◌∙◌, subst, append_assoc, append-nil}
 use Rattle.registers.specs.Meaning.{Meaning}
 use Rattle.goals.specs.declared.time.Span.{Span}
 use Rattle.goals.specs.declared.job.Job.{Job}
@@ -141,12 +141,11 @@ one_piece job m n before after last verdict cut =
 
 -- what was written is the report
 pub report-written : (job : Job) → LabelsStayKnown → Sound job → (m : Meaning) (ss : List Step) (before after : List Line) (verdict : Verdict) (ending : Ending) (t₀ t₁ t₂ : List ℕ) →
-    before ≡ report_lines ss → Answered job m before after verdict → length t₀ ≡ 0 → t₁ ≡ t₀ ++ told_text after →
+    before ≡ report_lines ss → Answered job m before after verdict → t₀ ≡ [] → t₁ ≡ t₀ ++ told_text after →
     ending ≡ ending_by (told_end after) (verdict_ending verdict.broken verdict.judgement) → t₂ ≡ t₁ ++ ending_line ending → t₂ ≡ report job m ss
-report-written job known sound m ss before after verdict ending (x ∷ xs) t₁ t₂ eb run none e₁ ee e₂ = absurd (omega (arith, none))
-report-written job known sound m ss before after verdict ending [] t₁ t₂ eb run none e₁ ee e₂ =
+report-written job known sound m ss before after verdict ending t₀ t₁ t₂ eb run none e₁ ee e₂ =
     e₂
-    ∙ (ap (λ t. t ++ ending_line ending) e₁
+    ∙ (ap (λ t. t ++ ending_line ending) (e₁ ∙ ap (λ t. t ++ told_text after) none)
     ∙ (ap (λ e. told_text after ++ ending_line e) ee
     ∙ report-told job known sound m ss after verdict (run.lines ∙ ap (answered job (opened job m)) eb)
     (run.closed ∙ ap (λ t. verdict_of job (after_calls job (opened job m) (calls_in t))) eb)))
@@ -157,8 +156,3 @@ ends_well u r ending last verdict er ev ee = ee ∙ (ev ∙ ap (λ t. ending_by 
 
 pub ends-refused : (n : ℕ) (r : Result (Unit {0}) ℕ) (ending verdict : Ending) → Err n ≡ r → ending ≡ Refused n → ending ≡ ending_by r verdict
 ends-refused n r ending verdict er ee = ee ∙ ap (λ t. ending_by t verdict) er
-
--- a file that is refused
-pub refusal_written : (n k : ℕ) (t₀ t₁ : List ℕ) → length t₀ ≡ 0 → n ≡ k → t₁ ≡ t₀ ++ ending_line (Refused n) → t₁ ≡ ending_line (Refused k)
-refusal_written n k (x ∷ xs) t₁ none en e = absurd (omega (arith, none))
-refusal_written n k [] t₁ none en e = e ∙ ap (λ t. ending_line (Refused t)) en

@@ -25,7 +25,7 @@ abbrev pub field : ℕ → List ℕ
 field n = decimal n ++ codes " "
 
 -- number, hour, size of the label, and whether the label is true, false or open
-unfoldable pub line_by : ℕ → ℕ → ℕ → LabelState → List ℕ
+abbrev pub line_by : ℕ → ℕ → ℕ → LabelState → List ℕ
 line_by number hour size truth = field number ++ (field hour ++ (field size ++ (truth_word truth ++ line_feed)))
 
 -- the line of a session that stands so
@@ -40,7 +40,7 @@ look_line look = line_by look.number look.hour.hours look.size look.truth
 abbrev pub numbered : List ℕ → ℕ → List ℕ
 numbered words n = words ++ (decimal n ++ line_feed)
 
-unfoldable pub ending_line : Ending → List ℕ
+abbrev pub ending_line : Ending → List ℕ
 ending_line Kept = codes "kept" ++ line_feed
 ending_line NotKept = codes "not kept" ++ line_feed
 ending_line (Broken k) = numbered (codes "broken ") k

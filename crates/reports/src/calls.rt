@@ -2,9 +2,12 @@ ghost use Rattle.std.specs.Prelude.{◌≡◌, ◌+◌, ◌≤◌, true, length,
 ghost use Rattle.goals.specs.Frame.{framed};
 ghost use Rattle.reports.specs.FileSteps.{step_at, steps_in, unanswered as unanswered_line, report_lines};
 
-use goals::frame::read_frame;
+use goals::frame::{LONGEST_FILE, read_frame};
 use sessions::call::{Call, Line};
 use sessions::step::{Arguments, Step};
+
+// A look at the opening, and a step and a look for each four bytes of the longest file.
+pub const MOST_CALLS: usize = 1 + 2 * (LONGEST_FILE / 4);
 
 fn unanswered(call: Call) -> Line
     ensures { result ≡ unanswered_line call }
@@ -31,10 +34,10 @@ fn read_step(file: &[u8], at: usize) -> Step
 // file with a look behind it.
 pub fn add_calls(lines: &mut Vec<Line>, file: &[u8])
     requires empty { vec_len lines.old ≡ 0 }
-    requires room { 20001 ≤ vec_capacity lines.old }
+    requires room { MOST_CALLS ≤ vec_capacity lines.old }
     requires framed { is_ok (framed file.now) ≡ true }
     ensures items { lines.new.items ≡ report_lines (steps_in file.now) }
-    ensures few { vec_len lines.new ≤ 20001 }
+    ensures few { vec_len lines.new ≤ MOST_CALLS }
 {
     let Ok(frame) = read_frame(file) else {
         return;

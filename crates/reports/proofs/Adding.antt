@@ -60,8 +60,8 @@ calls-none file n at [] ys z none e ey =
 
 -- a framed file is not refused
 pub never_refused : {A : Type 0} (r : Result Frame FrameFault) (e : FrameFault) → is_ok r ≡ true → r ≡ Err e → A
-never_refused (Ok f) e h is = let z : ◌≡◌ {A = ℕ} 0 1 = cc in absurd (omega arith)
-never_refused (Err x) e h is = let z : ◌≡◌ {A = ℕ} 0 1 = cc in absurd (omega arith)
+never_refused (Ok f) e h is = absurd (cc)
+never_refused (Err x) e h is = absurd (cc)
 
 -- the steps by the frame that was read are those of the file
 pub own-steps : (file : List ℕ) (f : Frame) → f ≡ frame_of file → steps_from file f.steps f.steps_at ≡ steps_in file

@@ -17,12 +17,13 @@ use Rattle.sessions.specs.declared.call.Call as call
 use Rattle.sessions.specs.declared.call.Answer.TheVariants.{Stepped, Seen}
 use Rattle.sessions.specs.declared.call.Line.{Line}
 use Rattle.sessions.specs.State.{World, opened, advanced}
-use Rattle.sessions.specs.Refusals.{step_number}
 use Rattle.sessions.specs.Answers.{checked_at, step_answer, step_after, look_of, calls_in, after_calls, answered, verdict_of}
 use Rattle.sessions.specs.Pieces.{Joined, all_lines, Uncut}
 use Rattle.sessions.proofs.Ledgers.{answered-length}
 use Rattle.reports.specs.declared.ending.Ending.{Ending}
 use Rattle.reports.specs.declared.ending.Ending.TheVariants.{Refused}
+use Rattle.reports.specs.declared.ending.ReportRefusal.{ReportRefusal}
+use Rattle.reports.specs.declared.ending.ReportRefusal as refusals
 use Rattle.reports.specs.Lines.{line_of, verdict_ending, ending_line}
 use Rattle.reports.specs.Report.{lines_from, ending_from, report}
 use Rattle.reports.specs.FileSteps.{unanswered, step_lines, report_lines}
@@ -83,7 +84,7 @@ module _ (job : Job) (known : LabelsStayKnown) (sound : Sound job) where
       ≡ ending_from job (advanced job w s.arguments o) ss) →
       ending_by (told_end (record { call = call.TheVariants.Step s; answer = Some (Stepped (step_answer r)) } ∷ answered job (step_after job w s.arguments r) (unanswered call.TheVariants.Look ∷ step_lines ss)))
       (ending_at job (after_calls job (step_after job w s.arguments r) (calls_in (step_lines ss))))
-      ≡ (elim r [ Ok o ↦ ending_from job (advanced job w s.arguments o) ss | Err e ↦ Refused (step_number e) ])
+      ≡ (elim r [ Ok o ↦ ending_from job (advanced job w s.arguments o) ss | Err e ↦ Refused (refusals.TheVariants.Step e) ])
   unfolding told_end
   end_by w s ss (Err e) h rest = refl
   end_by w s ss (Ok o) h rest =
@@ -151,8 +152,8 @@ report-written job known sound m ss before after verdict ending t₀ t₁ t₂ e
     (run.closed ∙ ap (λ t. verdict_of job (after_calls job (opened job m) (calls_in t))) eb)))
 
 -- the ending by the verdict, or by the first refusal
-pub ends_well : (u : Unit {0}) (r : Result (Unit {0}) ℕ) (ending last verdict : Ending) → Ok u ≡ r → last ≡ verdict → ending ≡ last → ending ≡ ending_by r verdict
+pub ends_well : (u : Unit {0}) (r : Result (Unit {0}) ReportRefusal) (ending last verdict : Ending) → Ok u ≡ r → last ≡ verdict → ending ≡ last → ending ≡ ending_by r verdict
 ends_well u r ending last verdict er ev ee = ee ∙ (ev ∙ ap (λ t. ending_by t verdict) er)
 
-pub ends-refused : (n : ℕ) (r : Result (Unit {0}) ℕ) (ending verdict : Ending) → Err n ≡ r → ending ≡ Refused n → ending ≡ ending_by r verdict
-ends-refused n r ending verdict er ee = ee ∙ ap (λ t. ending_by t verdict) er
+pub ends-refused : (e : ReportRefusal) (r : Result (Unit {0}) ReportRefusal) (ending verdict : Ending) → Err e ≡ r → ending ≡ Refused e → ending ≡ ending_by r verdict
+ends-refused e r ending verdict er ee = ee ∙ ap (λ t. ending_by t verdict) er

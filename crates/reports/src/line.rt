@@ -1,11 +1,10 @@
 ghost use Rattle.std.specs.Prelude.{◌≡◌, ◌+◌, ◌≤◌, ◌++◌, length};
-ghost use Rattle.reports.specs.Lines.{truth_word, field, look_line, numbered, ending_line, verdict_ending};
+ghost use Rattle.reports.specs.Lines.{truth_word, field, look_line, numbered, ending_line};
 
 use crate::ending::Ending;
 use crate::text::{LONGEST_LINE, LONGEST_REPORT, Text};
 use labels::state::LabelState;
 use sessions::look::Look;
-use sessions::verdict::{Judgement, Verdict};
 
 // A word for each state. `LabelState` is not this crate's, so that no conversion of std can be written for it here.
 fn truth_word(truth: LabelState) -> &'static [u8]
@@ -63,21 +62,10 @@ impl Text {
             Ending::Kept => self.push_bytes(b"kept\n"),
             Ending::NotKept => self.push_bytes(b"not kept\n"),
             Ending::Broken(step) => self.push_numbered(b"broken ", u64::from(step)),
-            Ending::Refused(number) => self.push_numbered(b"refused ", u64::from(number)),
+            Ending::Refused(refusal) => self.push_numbered(
+                b"refused ",
+                u64::from(refusal.number()),
+            ),
         }
-    }
-}
-
-// The ending by a verdict: a broken step is named whatever the judgement.
-pub fn ending_of(verdict: &Verdict) -> Ending
-    ensures { result ≡ verdict_ending verdict.now.broken verdict.now.judgement }
-{
-    if let Some(step) = verdict.broken {
-        return Ending::Broken(step);
-    }
-    match verdict.judgement {
-        Judgement::Kept => Ending::Kept,
-        Judgement::NotKept => Ending::NotKept,
-        Judgement::OtherJob => Ending::Refused(10),
     }
 }

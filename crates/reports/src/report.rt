@@ -8,8 +8,7 @@ ghost use Rattle.reports.specs.FileReport.{Reports};
 
 use crate::answers::push_answers;
 use crate::calls::add_calls;
-use crate::ending::Ending;
-use crate::line::ending_of;
+use crate::ending::{Ending, ReportRefusal};
 use crate::room::{ReportRoom, RunRoom};
 use crate::text::Text;
 use goals::job::Job;
@@ -45,8 +44,8 @@ fn report_steps<R: Register>(
     let mut work = Work { register, lines };
     let closing = run_schedule(label, &mut workspace, job, &mut work);
     let ending = match push_answers(text, work.lines.as_slice()) {
-        Ok(()) => ending_of(&closing.verdict),
-        Err(number) => Ending::Refused(number),
+        Ok(()) => Ending::from(&closing.verdict),
+        Err(refusal) => Ending::Refused(refusal),
     };
     text.push_ending(ending);
 }
@@ -62,7 +61,7 @@ pub fn report<R: Register + Drop>(room: ReportRoom, register: R, file: &[u8]) ->
     let mut register = register;
     match fill(&mut register, file, job) {
         Ok(job) => report_steps(&mut text, run, &job, &mut register, file),
-        Err(fault) => text.push_ending(Ending::Refused(fault.number())),
+        Err(fault) => text.push_ending(Ending::Refused(ReportRefusal::File(fault))),
     }
     text.into_bytes()
 }

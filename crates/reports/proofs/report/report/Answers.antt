@@ -1,5 +1,6 @@
 use Rattle.std.proofs.Common.{◌++◌, Ok, Err, ap, ◌∙◌}
 use Rattle.reports.specs.declared.ending.Ending.TheVariants.{Refused}
+use Rattle.reports.specs.declared.ending.ReportRefusal.TheVariants.{File}
 use Rattle.reports.specs.Lines.{ending_line}
 use Rattle.reports.proofs.report.report.Goals as goal
 use Rattle.reports.proofs.report.report.Goals.{in-Ok, in-Err}
@@ -23,8 +24,7 @@ returns g c =
             written =
                 c.into_bytes.ensures
                 ∙ (w.text-is
-                ∙ (w.push_ending.ensures
-                ∙ (ap (λ t. t ++ ending_line (Refused w.number.result)) c.args.room.blank ∙ ap (λ n. ending_line (Refused n)) w.number.ensures)));
+                ∙ (w.push_ending.ensures ∙ ap (λ t. t ++ ending_line (Refused (File w.in-Err.fault))) c.args.room.blank));
             tells = tt;
           }
     ]

@@ -23,8 +23,8 @@ returns g c =
     let same = c.as_slice.ensures.value in
     let ending : c.match-push_answers.ending ≡ ending_by (told_end after) (verdict_ending verdict.broken verdict.judgement) =
     elim c.match-push_answers.branch [
-      | in-Ok w ↦ ends_well _ (told_end after) _ _ _ (w.in-Ok.ensures.end ∙ ap told_end same) w.ending_of-ending.ensures w.ending-is
-      | in-Err w ↦ ends-refused w.in-Err.number (told_end after) _ _ (w.in-Err.ensures.end ∙ ap told_end same) w.ending-is
+      | in-Ok w ↦ ends_well _ (told_end after) _ _ _ (w.in-Ok.ensures.end ∙ ap told_end same) w.from-ending.ensures w.ending-is
+      | in-Err w ↦ ends-refused w.in-Err.refusal (told_end after) _ _ (w.in-Err.ensures.end ∙ ap told_end same) w.ending-is
     ] in
     record {
       text =

@@ -15,17 +15,17 @@ fn unanswered(call: Call) -> Line
     Line { call, answer: None }
 }
 
-// The step in the four bytes at a place.
-fn read_step(file: &[u8], at: usize) -> Step
-    requires { at + 4 ≤ length file.now }
-    ensures { result ≡ step_at file.now at }
+// The step in four bytes: its operation and three arguments.
+fn step_in(bytes: &[u8; 4]) -> Step
+    ensures { result ≡ step_at bytes.now 0 }
 {
+    let [operation, first, second, third] = *bytes;
     Step {
-        operation: file[at],
+        operation,
         arguments: Arguments {
-            first: u16::from(file[at + 1]),
-            second: u16::from(file[at + 2]),
-            third: u16::from(file[at + 3]),
+            first: u16::from(first),
+            second: u16::from(second),
+            third: u16::from(third),
         },
     }
 }
@@ -39,13 +39,12 @@ pub fn add_calls(lines: &mut Vec<Line>, file: &[u8])
     ensures items { lines.new.items ≡ report_lines (steps_in file.now) }
     ensures few { vec_len lines.new ≤ MOST_CALLS }
 {
-    let Ok(frame) = read_frame(file) else {
-        return;
-    };
+    let frame = read_frame(file).unwrap();
+    let (_, section) = file.split_at(frame.steps_at);
+    let (steps, _) = section.as_chunks::<4>();
     lines.push_reserved(unanswered(Call::Look));
-    for k in 0..frame.steps {
-        let step = read_step(file, frame.steps_at + 4 * usize::from(k));
-        lines.push_reserved(unanswered(Call::Step(step)));
+    for bytes in steps {
+        lines.push_reserved(unanswered(Call::Step(step_in(bytes))));
         lines.push_reserved(unanswered(Call::Look));
     }
 }

@@ -26,6 +26,16 @@ impl ReportRefusal {
     }
 }
 
+impl From<FillFault> for ReportRefusal {
+    ghost use Rattle.reports.specs.declared.ending.ReportRefusal.TheVariants.{File};
+
+    ghost from_gives = { λ x y. y ≡ File x };
+
+    fn from(fault: FillFault) -> ReportRefusal {
+        ReportRefusal::File(fault)
+    }
+}
+
 impl From<StepRefusal> for ReportRefusal {
     ghost use Rattle.reports.specs.declared.ending.ReportRefusal.TheVariants.{Step};
 

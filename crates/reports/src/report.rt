@@ -8,7 +8,7 @@ ghost use Rattle.reports.specs.FileReport.{Reports};
 
 use crate::answers::push_answers;
 use crate::calls::add_calls;
-use crate::ending::{Ending, ReportRefusal};
+use crate::ending::Ending;
 use crate::room::{ReportRoom, RunRoom};
 use crate::text::Text;
 use goals::job::Job;
@@ -61,7 +61,7 @@ pub fn report<R: Register + Drop>(room: ReportRoom, register: R, file: &[u8]) ->
     let mut register = register;
     match fill(&mut register, file, job) {
         Ok(job) => report_steps(&mut text, run, &job, &mut register, file),
-        Err(fault) => text.push_ending(Ending::Refused(ReportRefusal::File(fault))),
+        Err(fault) => text.push_ending(Ending::Refused(fault.into())),
     }
     text.into_bytes()
 }

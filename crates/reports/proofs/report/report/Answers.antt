@@ -1,6 +1,5 @@
 use Rattle.std.proofs.Common.{◌++◌, Ok, Err, ap, ◌∙◌}
 use Rattle.reports.specs.declared.ending.Ending.TheVariants.{Refused}
-use Rattle.reports.specs.declared.ending.ReportRefusal.TheVariants.{File}
 use Rattle.reports.specs.Lines.{ending_line}
 use Rattle.reports.proofs.report.report.Goals as goal
 use Rattle.reports.proofs.report.report.Goals.{in-Ok, in-Err}
@@ -24,7 +23,8 @@ returns g c =
             written =
                 c.into_bytes.ensures
                 ∙ (w.text-is
-                ∙ (w.push_ending.ensures ∙ ap (λ t. t ++ ending_line (Refused (File w.in-Err.fault))) c.args.room.blank));
+                ∙ (w.push_ending.ensures
+                ∙ (ap (λ t. t ++ ending_line (Refused w.into.result)) c.args.room.blank ∙ ap (λ r. ending_line (Refused r)) w.into.ensures)));
             tells = tt;
           }
     ]

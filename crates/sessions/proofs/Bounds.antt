@@ -50,12 +50,8 @@ module _ (N parameters : ℕ) (a : Arguments) (few : N ≤ 128) (some : 0 < N) (
       let p = and_parts (entry_inside N parameters e) (entries_inside N parameters es) h in
       allowed_cons (ground a e) (map (ground a) es) ∙ and_from (allowed (ground a e)) _ (entry_allowed e p.0) (entries-allowed es p.1)
 
--- what a step's operation promises, part by part
-pub record KeptBounds (N : ℕ) (o : Operation) (a : Arguments) : Type 0 where
-  pub puts : all_allowed (ground_all a o.puts) ≡ true
-  pub span : o.span.hours ≤ 1000
-
-pub puts-allowed : (N : ℕ) (o : Operation) (a : Arguments) → N ≤ 128 → 0 < N → Inside N o → arguments_fit N o.parameters a ≡ true → KeptBounds N o a
+-- what a step's operation promises
+pub puts-allowed : (N : ℕ) (o : Operation) (a : Arguments) → N ≤ 128 → 0 < N → Inside N o → arguments_fit N o.parameters a ≡ true → all_allowed (ground_all a o.puts) ≡ true
 unfolding operation_inside
 puts-allowed N o a few some inside fit =
     let within = entries_inside N o.parameters in
@@ -63,4 +59,9 @@ puts-allowed N o a few some inside fit =
     let q = and_parts (leb o.span.hours 1000) _ p.1 in
     let r = and_parts (within (entries_of o.needs)) _ q.1 in
     let s = and_parts (within (entries_of o.takes)) (within (entries_of o.puts)) r.1 in
-    record { puts = entries-allowed N o.parameters a few some fit (entries_of o.puts) s.1; span = leb-true o.span.hours 1000 q.0 }
+    entries-allowed N o.parameters a few some fit (entries_of o.puts) s.1
+
+pub span-short : (N : ℕ) (o : Operation) → Inside N o → o.span.hours ≤ 1000
+unfolding operation_inside
+span-short N o inside =
+    leb-true o.span.hours 1000 (and_parts (leb o.span.hours 1000) _ (and_parts (leb o.parameters 3) _ inside).1).0

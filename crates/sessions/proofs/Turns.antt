@@ -1,5 +1,5 @@
 -- One turn of a loop over calls, the end of the loop, and one piece before others.
-use Rattle.std.proofs.Common.{◌≡◌, ℕ, ◌+◌, ◌<◌, ◌≤◌, List, [], ◌∷◌, ◌++◌, length, get_or, take, drop, set, Some, sym, ap, ◌∙◌, subst, append_assoc, append-nil, arith}
+use Rattle.std.proofs.Common.{◌≡◌, ℕ, ◌+◌, ◌<◌, ◌≤◌, List, ◌∷◌, ◌++◌, length, get_or, take, drop, set, Some, sym, refl, ap, ◌∙◌, subst, append_assoc, append-nil, arith}
 use Rattle.std.proofs.lemmas.List.{drop_more, drop_all, take_all, take_more_set, drop-set-lt}
 use Rattle.goals.specs.declared.job.Job.{Job}
 use Rattle.goals.specs.JobView.{ids_of, nodes_of, root_of, SoundJob}
@@ -13,33 +13,22 @@ use Rattle.sessions.specs.Laws.{last_world, Law, RunsKeepTheLaw}
 use Rattle.sessions.proofs.Cuts.{uncut_of}
 
 module _ (job : Job) where
-  module _ (ls : List Line) (i : ℕ) (x : Line) (h : i < length ls) (ex : x ≡ get_or ls i x) where
-    from-here : drop i ls ≡ x ∷ drop (i + 1) ls
-    from-here = drop_more ls i x h ∙ ap (λ t. t ∷ drop (i + 1) ls) (sym ex)
-
+  module _ (ls : List Line) (i : ℕ) (d : Line) (h : i < length ls) where
     -- where the lines from i on lead, once line i was answered
-    pub after_turn : (w v : World) (y : Line) → v ≡ after_call job w x.call →
+    pub after_turn : (w v : World) (y : Line) → v ≡ after_call job w (get_or ls i d).call →
         after_calls job w (calls_in (drop i ls)) ≡ after_calls job v (calls_in (drop (i + 1) (set ls i y)))
     unfolding after_calls
-    after_turn w v y e =
-        ap (λ t. after_calls job w (calls_in t)) from-here
-        ∙ (ap (λ u. after_calls job u (calls_in (drop (i + 1) ls))) (sym e)
-        ∙ ap (λ t. after_calls job v (calls_in t)) (sym (drop-set-lt (i + 1) ls i y (omega arith))))
+    after_turn w v y e = rw (drop-set-lt (i + 1) ls i y (omega arith), drop_more ls i d h, e) refl
 
     -- the lines answered so far, and the rest as they will be
-    pub answered_turn : (w v : World) (a : Answer) → a ≡ answer_to job w x.call → v ≡ after_call job w x.call →
+    pub answered_turn : (w v : World) (a : Answer) → a ≡ answer_to job w (get_or ls i d).call → v ≡ after_call job w (get_or ls i d).call →
         take i ls ++ answered job w (drop i ls)
-        ≡ take (i + 1) (set ls i (record { call = x.call; answer = Some a }))
-        ++ answered job v (drop (i + 1) (set ls i (record { call = x.call; answer = Some a })))
+        ≡ take (i + 1) (set ls i (record { call = (get_or ls i d).call; answer = Some a }))
+        ++ answered job v (drop (i + 1) (set ls i (record { call = (get_or ls i d).call; answer = Some a })))
     unfolding answered
     answered_turn w v a ea e =
-        let y : Line = record { call = x.call; answer = Some a } in
-        ap (λ t. take i ls ++ answered job w t) from-here
-        ∙ (ap (λ b. take i ls ++ (record { call = x.call; answer = Some b } ∷ answered job (after_call job w x.call) (drop (i + 1) ls))) (sym ea)
-        ∙ (ap (λ u. take i ls ++ (y ∷ answered job u (drop (i + 1) ls))) (sym e)
-        ∙ (sym (append_assoc (take i ls) (y ∷ []) (answered job v (drop (i + 1) ls)))
-        ∙ (ap (λ t. t ++ answered job v (drop (i + 1) ls)) (sym (take_more_set ls i y h))
-        ∙ ap (λ t. take (i + 1) (set ls i y) ++ answered job v t) (sym (drop-set-lt (i + 1) ls i y (omega arith)))))))
+        let y : Line = record { call = (get_or ls i d).call; answer = Some a } in
+        rw (take_more_set ls i y h, drop-set-lt (i + 1) ls i y (omega arith), drop_more ls i d h, ea, e, append_assoc) refl
 
   pub after-end : (w : World) (ls : List Line) (i : ℕ) → length ls ≤ i → after_calls job w (calls_in (drop i ls)) ≡ w
   unfolding after_calls

@@ -3,7 +3,7 @@ use crate::refusal::{LookRefusal, StepRefusal};
 use crate::step::Step;
 
 // A call on a session, as a value.
-#[derive(Clone, Copy)]
+#[derive(Clone, Copy, PartialEq, Eq, Debug)]
 pub enum Call {
     Step(Step),
     Look,

@@ -1,6 +1,6 @@
 ghost use Rattle.std.specs.Prelude.{◌≡◌, ◌+◌, ◌≤◌, true, length, is_ok, vec_len, vec_capacity};
 ghost use Rattle.goals.specs.Frame.{framed};
-ghost use Rattle.reports.specs.FileSteps.{step_at, steps_in, unanswered as unanswered_line, report_lines};
+ghost use Rattle.reports.specs.FileSteps.{step_at, steps_in, report_lines};
 
 use goals::frame::{LONGEST_FILE, read_frame};
 use sessions::call::{Call, Line};
@@ -8,12 +8,6 @@ use sessions::step::{Arguments, Step};
 
 // A look at the opening, and a step and a look for each four bytes of the longest file.
 pub const MOST_CALLS: usize = 1 + 2 * (LONGEST_FILE / 4);
-
-fn unanswered(call: Call) -> Line
-    ensures { result ≡ unanswered_line call }
-{
-    Line { call, answer: None }
-}
 
 // The step in four bytes: its operation and three arguments.
 fn step_in(bytes: &[u8; 4]) -> Step
@@ -42,9 +36,9 @@ pub fn add_calls(lines: &mut Vec<Line>, file: &[u8])
     let frame = read_frame(file).unwrap();
     let (_, section) = file.split_at(frame.steps_at);
     let (steps, _) = section.as_chunks::<4>();
-    lines.push_reserved(unanswered(Call::Look));
+    lines.push_reserved(Line::from(Call::Look));
     for bytes in steps {
-        lines.push_reserved(unanswered(Call::Step(step_in(bytes))));
-        lines.push_reserved(unanswered(Call::Look));
+        lines.push_reserved(Line::from(Call::Step(step_in(bytes))));
+        lines.push_reserved(Line::from(Call::Look));
     }
 }

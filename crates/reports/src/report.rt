@@ -53,12 +53,10 @@ fn report_steps<R: Register>(
 // The report of an edition file over a register, as bytes: the register is filled with the file's facts, the file's steps
 // are run on its job, and each call's answer is written down up to the first refusal, then the verdict. A file that is
 // refused gives its number alone.
-pub fn report<R: Register + Drop>(room: ReportRoom, register: R, file: &[u8]) -> Vec<u8>
+pub fn report<R: Register + Drop>(room: ReportRoom, mut register: R, file: &[u8]) -> Vec<u8>
     ensures { Reports (R.Register.meaning register) file.now result.items }
 {
-    let ReportRoom { job, run, text } = room;
-    let mut text = text;
-    let mut register = register;
+    let ReportRoom { job, run, mut text } = room;
     match fill(&mut register, file, job) {
         Ok(job) => report_steps(&mut text, run, &job, &mut register, file),
         Err(fault) => text.push_ending(Ending::Refused(fault.into())),

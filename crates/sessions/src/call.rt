@@ -1,3 +1,5 @@
+ghost use Rattle.std.specs.Prelude.{◌≡◌, None};
+
 use crate::look::Look;
 use crate::refusal::{LookRefusal, StepRefusal};
 use crate::step::Step;
@@ -21,4 +23,13 @@ pub enum Answer {
 pub struct Line {
     pub call: Call,
     pub answer: Option<Answer>,
+}
+
+// A call that was not made yet.
+impl From<Call> for Line {
+    ghost from_gives = { λ x y. y ≡ record { call = x; answer = None } };
+
+    fn from(call: Call) -> Line {
+        Line { call, answer: None }
+    }
 }

@@ -21,6 +21,7 @@ pub enum StepRefusal {
 }
 
 impl StepRefusal {
+    // By a match: `as` takes no enum with a variant that holds something, and a `From` for `u8` would name no number.
     pub fn number(self) -> u8
         ensures { result ≡ step_number self }
     {

@@ -22,7 +22,7 @@ loop-bytes-preserved c =
       calls =
           c.loop-bytes.invariant.calls
           ∙ calls-more c.as_chunks.result.0.now c.loop-bytes.bytes-index _ _ _ _ _ _ _ c.loop-bytes-test.true c.step_in.ensures
-          c.unanswered-in-loop-bytes.ensures c.unanswered-in-loop-bytes-2.ensures c.push_reserved-in-loop-bytes.ensures.items
+          c.from-in-loop-bytes.ensures c.from-in-loop-bytes-2.ensures c.push_reserved-in-loop-bytes.ensures.items
           c.push_reserved-in-loop-bytes-2.ensures.items;
       count = omega arith;
       room = omega arith;

@@ -1,4 +1,4 @@
--- One turn of a loop over calls, the end of the loop, and one piece before others.
+-- One turn of a loop over calls, the end of the loop, and what a run of pieces came to.
 use Rattle.std.proofs.Common.{◌≡◌, ℕ, ◌+◌, ◌<◌, ◌≤◌, List, ◌∷◌, ◌++◌, length, get_or, take, drop, set, Some, sym, refl, ap, ◌∙◌, subst, append_assoc, append-nil, arith}
 use Rattle.std.proofs.lemmas.List.{drop_more, drop_all, take_all, take_more_set, drop-set-lt}
 use Rattle.goals.specs.declared.job.Job.{Job}
@@ -8,7 +8,7 @@ use Rattle.sessions.specs.declared.call.Line.{Line}
 use Rattle.sessions.specs.declared.call.Answer.{Answer}
 use Rattle.sessions.specs.State.{State, World, opened_state, opened}
 use Rattle.sessions.specs.Answers.{answer_to, after_call, after_calls, answered, calls_in, verdict_of}
-use Rattle.sessions.specs.Pieces.{Part, taken_up, after_part, state_after, parts_after, Joined, all_lines, last_facts, Uncut}
+use Rattle.sessions.specs.Pieces.{Part, state_after, parts_after, Joined, all_lines, last_facts, Uncut}
 use Rattle.sessions.specs.Laws.{last_world, Law, RunsKeepTheLaw}
 use Rattle.sessions.proofs.Cuts.{uncut_of}
 
@@ -39,19 +39,6 @@ module _ (job : Job) where
   answered-end w ls i h =
       ap (λ t. take i ls ++ answered job w t) (drop_all i ls h) ∙ (append-nil (take i ls) ∙ take_all i ls h)
 
-  -- a piece, and then the others
-  pub piece_run : (s t t' r : State) (p q : Part) (ps qs : List Part) →
-      ◌≡◌ {A = World} (record { state = t; facts = q.facts }) (after_part job s p) →
-      q.lines ≡ answered job (taken_up s p) p.lines → t' ≡ t → r ≡ state_after job t' ps → qs ≡ parts_after job t' ps →
-      (r ≡ state_after job s (p ∷ ps)) × (◌≡◌ {A = List Part} (q ∷ qs) (parts_after job s (p ∷ ps)))
-  unfolding state_after parts_after
-  piece_run s t t' r p q ps qs ea el et er eq =
-      let es : t' ≡ (after_part job s p).state = et ∙ ap (λ (v : World). v.state) ea in
-      let ef : q.facts ≡ (after_part job s p).facts = ap (λ (v : World). v.facts) ea in
-      let e1 = er ∙ ap (λ x. state_after job x ps) es in
-      let e2 = eq ∙ ap (λ x. parts_after job x ps) es in
-      (e1, λ i. record { facts = ef i; lines = el i } ∷ e2 i)
-
 -- what a closed run of pieces came to
 module _ (job : Job) (p q : Part) (ps qs : List Part) (s₀ s₁ s₂ : State) (v : Verdict)
     (e₀ : s₀ ≡ opened_state job) (e₁ : s₁ ≡ state_after job s₀ (p ∷ ps)) (eq : ◌≡◌ {A = List Part} (q ∷ qs) (parts_after job s₀ (p ∷ ps)))
@@ -59,17 +46,16 @@ module _ (job : Job) (p q : Part) (ps qs : List Part) (s₀ s₁ s₂ : State) (
   abbrev last : World
   last = record { state = s₂; facts = last_facts q.facts qs }
 
-  pub state-is : s₂ ≡ state_after job (opened_state job) (p ∷ ps)
+  state-is : s₂ ≡ state_after job (opened_state job) (p ∷ ps)
   state-is = e₂ ∙ (e₁ ∙ ap (λ s. state_after job s (p ∷ ps)) e₀)
 
-  pub parts_are : ◌≡◌ {A = List Part} (q ∷ qs) (parts_after job (opened_state job) (p ∷ ps))
+  parts_are : ◌≡◌ {A = List Part} (q ∷ qs) (parts_after job (opened_state job) (p ∷ ps))
   parts_are = eq ∙ ap (λ s. parts_after job s (p ∷ ps)) e₀
 
   last-is : last ≡ last_world job (opened job p.facts) (p ∷ ps)
-  unfolding last_facts
   last-is = λ i. record { state = state-is i; facts = last_facts p.facts (parts_are i) }
 
-  pub verdict_is : v ≡ verdict_of job last
+  verdict_is : v ≡ verdict_of job last
   verdict_is = ev ∙ ap (λ s. verdict_of job (record { state = s; facts = last_facts q.facts qs })) (sym e₂)
 
   pub is_uncut : Joined job (opened job p.facts) (p ∷ ps) → Uncut job (opened job p.facts) (p ∷ ps) (q ∷ qs) last v

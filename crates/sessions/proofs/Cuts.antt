@@ -1,5 +1,6 @@
 -- Cutting a list of calls changes nothing, if each piece begins with what stands there.
 use Rattle.std.proofs.Common.{◌≡◌, List, [], ◌∷◌, ◌++◌, map, length, Some, sym, refl, ap, ◌∙◌, subst, append-nil}
+use Rattle.std.proofs.lemmas.List.{map-append}
 use Rattle.std.specs.List.{slice_get}
 use Rattle.registers.specs.Meaning.{Meaning}
 use Rattle.goals.specs.declared.job.Job.{Job}
@@ -11,10 +12,6 @@ use Rattle.sessions.specs.Answers.{after_call, after_calls, answered, answer_to,
 use Rattle.sessions.specs.Pieces.{Part, taken_up, parts_after, Joined, all_lines, Uncut}
 use Rattle.sessions.specs.Laws.{last_world, CuttingChangesNothing}
 
-calls-append : (xs ys : List Line) → calls_in (xs ++ ys) ≡ calls_in xs ++ calls_in ys
-calls-append [] ys = refl
-calls-append (x ∷ xs) ys = ap (λ t. x.call ∷ t) (calls-append xs ys)
-
 module _ (job : Job) where
   after-append : (w : World) (xs ys : List Call) → after_calls job w (xs ++ ys) ≡ after_calls job (after_calls job w xs) ys
   unfolding after_calls
@@ -24,7 +21,7 @@ module _ (job : Job) where
   -- where two lists of calls lead, one behind the other
   pub after_both : (w : World) (xs ys : List Line) →
       after_calls job w (calls_in (xs ++ ys)) ≡ after_calls job (after_calls job w (calls_in xs)) (calls_in ys)
-  after_both w xs ys = ap (after_calls job w) (calls-append xs ys) ∙ after-append w (calls_in xs) (calls_in ys)
+  after_both w xs ys = ap (after_calls job w) (map-append (λ (x : Line). x.call) xs ys) ∙ after-append w (calls_in xs) (calls_in ys)
 
   pub answered-both : (w : World) (xs ys : List Line) →
       answered job w (xs ++ ys) ≡ answered job w xs ++ answered job (after_calls job w (calls_in xs)) ys

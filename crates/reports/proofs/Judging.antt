@@ -1,13 +1,13 @@
 -- What a report ends with tells of the model and of the first FALSE label.
-use Rattle.std.proofs.Common.{◌≡◌, ℕ, true, false, cond, ◌⊎◌, ◌↔◌, List, [], ◌∷◌, ◌++◌, Some, None, Ok, Err, Option, Result, sym, refl, ap, ◌∙◌, subst, inl, inr, ⊎_elim, append-nil}
+use Rattle.std.proofs.Common.{◌≡◌, ℕ, true, ◌⊎◌, ◌↔◌, List, [], ◌∷◌, ◌++◌, Some, None, Ok, Err, Option, Result, sym, refl, ap, ◌∙◌, subst, inl, inr, ⊎_elim, append-nil, arith}
 use Rattle.registers.specs.Meaning.{Meaning}
 use Rattle.goals.specs.declared.time.Span.{Span}
 use Rattle.goals.specs.declared.job.Job.{Job}
 use Rattle.goals.specs.declared.operation.Operation.{Operation}
-use Rattle.labels.specs.Labels.{Label, true_label, false_label, pending, not_label, and_label, or_label}
+use Rattle.labels.specs.Labels.{Label, false_label}
 use Rattle.labels.specs.Progress.{progressed}
 use Rattle.labels.specs.Idling.{idling}
-use Rattle.labels.specs.LabelCalls.{progress_of, known_to}
+use Rattle.labels.specs.LabelCalls.{progress_of}
 use Rattle.sessions.specs.declared.step.Step.{Step}
 use Rattle.sessions.specs.declared.step.Arguments.{Arguments}
 use Rattle.sessions.specs.declared.refusal.StepRefusal.{StepRefusal}
@@ -34,12 +34,7 @@ use Rattle.reports.proofs.Telling.{ending_at, Answered}
 
 -- a label that is told FALSE is FALSE
 false_is : (l : Label) → is_false l ≡ true → l ≡ false_label
-false_is true_label h = absurd (cc)
-false_is false_label h = refl
-false_is (pending n b e) h = absurd (cc)
-false_is (not_label q) h = absurd (cc)
-false_is (and_label q r) h = absurd (cc)
-false_is (or_label q r) h = absurd (cc)
+false_is l h = grind arith
 
 -- looks change neither the ledger nor its labels
 ledger-steps : (job : Job) (L : Ledger) (ss : List Step) → ledger_from job L (calls_in (step_lines ss)) ≡ ledger_from job L (step_calls ss)
@@ -71,12 +66,7 @@ module _ (job : Job) where
   stays_false m D l e = ap (progress_of job m D) e
 
   lost-by : (b : Option ℕ) (n k : ℕ) (l : Label) (was : (j : ℕ) → b ≡ Some j → l ≡ false_label) → broken_after b n l ≡ Some k → l ≡ false_label
-  lost-by (Some j) n k l was e = was j refl
-  lost-by None n k l was e =
-      (elim (is_false l) as (λ v. is_false l ≡ v → cond v (Some n) None ≡ Some k → l ≡ false_label) [
-        | true ↦ λ h _. false_is l h
-        | false ↦ λ h c. absurd (cc)
-      ]) refl e
+  lost-by b n k l was e = grind (arith, false_is)
 
   lost-step : (w : World) (a : Arguments) (r : Result Operation StepRefusal) → Lost w → Lost (step_after job w a r)
   lost-step w a (Err e) h k f = h k f
@@ -99,11 +89,7 @@ module _ (job : Job) where
   -- a FALSE label is not kept
   false_judged : (m : Meaning) (l : Label) → l ≡ false_label → judgement_by job m l ≡ judgement.TheVariants.Kept → ⊥
   unfolding idles_by idling
-  false_judged m l e h =
-      (elim (known_to job false_label) as (λ v. cond v judgement.TheVariants.NotKept judgement.TheVariants.OtherJob ≡ judgement.TheVariants.Kept → ⊥) [
-        | true ↦ λ c. cc
-        | false ↦ λ c. cc
-      ]) (subst (λ (t : Label). judgement_by job m t ≡ judgement.TheVariants.Kept) e h)
+  false_judged m l e h = grind arith
 
   -- either every step is accepted, and the report ends with the verdict; or one is refused
   abbrev ByVerdict : World → List Step → Type 0
@@ -159,22 +145,13 @@ module _ (job : Job) where
 
 -- what an ending by a verdict tells of the verdict
 ending_kept : (b : Option ℕ) (j : Judgement) → verdict_ending b j ≡ Kept → (b ≡ None) × (j ≡ judgement.TheVariants.Kept)
-ending_kept (Some k) j e = absurd (cc)
-ending_kept None judgement.TheVariants.Kept e = (refl, refl)
-ending_kept None judgement.TheVariants.NotKept e = absurd (cc)
-ending_kept None judgement.TheVariants.OtherJob e = absurd (cc)
+ending_kept b j e = (grind arith, grind arith)
 
 ending_not_kept : (b : Option ℕ) (j : Judgement) → verdict_ending b j ≡ NotKept → (b ≡ None) × (j ≡ judgement.TheVariants.NotKept)
-ending_not_kept (Some k) j e = absurd (cc)
-ending_not_kept None judgement.TheVariants.Kept e = absurd (cc)
-ending_not_kept None judgement.TheVariants.NotKept e = (refl, refl)
-ending_not_kept None judgement.TheVariants.OtherJob e = absurd (cc)
+ending_not_kept b j e = (grind arith, grind arith)
 
 ending_broken : (k : ℕ) (b : Option ℕ) (j : Judgement) → verdict_ending b j ≡ Broken k → b ≡ Some k
-ending_broken k (Some n) j e = cc
-ending_broken k None judgement.TheVariants.Kept e = absurd (cc)
-ending_broken k None judgement.TheVariants.NotKept e = absurd (cc)
-ending_broken k None judgement.TheVariants.OtherJob e = absurd (cc)
+ending_broken k b j e = grind arith
 
 none_or_some : (b : Option ℕ) → (b ≡ None) ⊎ ((k : ℕ) × (b ≡ Some k))
 none_or_some None = inl refl

@@ -98,44 +98,21 @@ module _ (job : Job) where
   abbrev ByRefusal : World → List Step → Type 0
   ByRefusal w ss = (n : ReportRefusal) × (ending_from job w ss ≡ Refused n) × (Accepted job w ss → ⊥)
 
-  -- how a report ends from a step on, by what its checks come to
-  abbrev ending_by_check : World → Step → List Step → Result Operation StepRefusal → Ending
-  ending_by_check w s ss (Ok o) = ending_from job (advanced job w s.arguments o) ss
-  ending_by_check w s ss (Err r) = Refused (refusal.TheVariants.Step r)
-
-  ending_step : (w : World) (s : Step) (ss : List Step) (r : Result Operation StepRefusal) → checked_at job w s ≡ r → ending_from job w (s ∷ ss) ≡ ending_by_check w s ss r
-  unfolding ending_from
-  ending_step w s ss r e = ap (ending_by_check w s ss) e
-
-  after-step : (w : World) (s : Step) (ss : List Step) (r : Result Operation StepRefusal) → checked_at job w s ≡ r →
-      after_calls job w (calls_in (step_lines (s ∷ ss))) ≡ after_calls job (step_after job w s.arguments r) (calls_in (step_lines ss))
-  unfolding after_calls step_lines
-  after-step w s ss r e = ap (λ t. after_calls job (step_after job w s.arguments t) (calls_in (step_lines ss))) e
-
-  accepted_step : (w : World) (s : Step) (ss : List Step) (o : Operation) → checked_at job w s ≡ Ok o → Accepted job (advanced job w s.arguments o) ss → Accepted job w (s ∷ ss)
-  unfolding Accepted
-  accepted_step w s ss o e acc = (o, e, acc)
-
-  accepted_rest : (w : World) (s : Step) (ss : List Step) (o : Operation) → checked_at job w s ≡ Ok o → Accepted job w (s ∷ ss) → Accepted job (advanced job w s.arguments o) ss
-  unfolding Accepted
-  accepted_rest w s ss o e acc =
-      let same : acc.0 ≡ o = let f = acc.1 in cc in
-      subst (λ (x : Operation). Accepted job (advanced job w s.arguments x) ss) same acc.2
-
-  refused_none : (w : World) (s : Step) (ss : List Step) (r : StepRefusal) → checked_at job w s ≡ Err r → Accepted job w (s ∷ ss) → ⊥
-  unfolding Accepted
-  refused_none w s ss r e acc = let f = acc.1 in cc
-
   ends_by : (w : World) (s : Step) (ss : List Step) (r : Result Operation StepRefusal) → checked_at job w s ≡ r →
       ((o : Operation) → ByVerdict (advanced job w s.arguments o) ss ⊎ ByRefusal (advanced job w s.arguments o) ss) →
       ByVerdict w (s ∷ ss) ⊎ ByRefusal w (s ∷ ss)
-  ends_by w s ss (Err r) e rest = inr (refusal.TheVariants.Step r, ending_step w s ss (Err r) e, refused_none w s ss r e)
+  unfolding Accepted ending_from after_calls step_lines
+  ends_by w s ss (Err r) e rest = inr (refusal.TheVariants.Step r, rw (e, ending_from) refl, λ acc. let f = acc.1 in cc)
   ends_by w s ss (Ok o) e rest =
       ⊎_elim
-      (λ (v : ByVerdict (advanced job w s.arguments o) ss).
-      inl (accepted_step w s ss o e v.0, ending_step w s ss (Ok o) e ∙ (v.1 ∙ sym (ap (ending_at job) (after-step w s ss (Ok o) e)))))
-      (λ (v : ByRefusal (advanced job w s.arguments o) ss).
-      inr (v.0, ending_step w s ss (Ok o) e ∙ v.1, λ acc. v.2 (accepted_rest w s ss o e acc)))
+      (λ (v : ByVerdict (advanced job w s.arguments o) ss). inl ((o, e, v.0), rw (e, ending_from, after_calls) v.1))
+      (λ (v : ByRefusal (advanced job w s.arguments o) ss). inr (
+        v.0,
+        rw (e, ending_from) v.1,
+        λ acc.
+            let same : acc.0 ≡ o = let f = acc.1 in cc in
+            v.2 (subst (λ (x : Operation). Accepted job (advanced job w s.arguments x) ss) same acc.2),
+      ))
       (rest o)
 
   ends-either : (ss : List Step) (w : World) → ByVerdict w ss ⊎ ByRefusal w ss

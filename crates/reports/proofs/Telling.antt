@@ -1,5 +1,5 @@
 -- The text of a schedule's answers is its report.
-use Rattle.std.proofs.Common.{◌≡◌, ℕ, Bool, true, cond, List, [], ◌∷◌, ◌++◌, length, Some, Ok, Err, Result, sym, refl, ap, ◌∙◌, subst, append_assoc, append-nil}
+use Rattle.std.proofs.Common.{◌≡◌, ℕ, true, List, [], ◌∷◌, ◌++◌, length, Some, Ok, Err, Result, sym, refl, ap, ◌∙◌, append_assoc, append-nil}
 use Rattle.registers.specs.Meaning.{Meaning}
 use Rattle.goals.specs.declared.time.Span.{Span}
 use Rattle.goals.specs.declared.job.Job.{Job}
@@ -11,13 +11,12 @@ use Rattle.labels.specs.LabelCalls.{known_to, progress_of, opening_of}
 use Rattle.labels.specs.Claims.{LabelsStayKnown}
 use Rattle.sessions.specs.declared.step.Step.{Step}
 use Rattle.sessions.specs.declared.refusal.StepRefusal.{StepRefusal}
-use Rattle.sessions.specs.declared.refusal.LookRefusal as refusal
 use Rattle.sessions.specs.declared.verdict.Verdict.{Verdict}
 use Rattle.sessions.specs.declared.call.Call as call
-use Rattle.sessions.specs.declared.call.Answer.TheVariants.{Stepped, Seen}
+use Rattle.sessions.specs.declared.call.Answer.TheVariants.{Stepped}
 use Rattle.sessions.specs.declared.call.Line.{Line}
 use Rattle.sessions.specs.State.{World, opened, advanced}
-use Rattle.sessions.specs.Answers.{checked_at, step_answer, step_after, look_of, calls_in, after_calls, answered, verdict_of}
+use Rattle.sessions.specs.Answers.{checked_at, step_answer, step_after, calls_in, after_calls, answered, verdict_of}
 use Rattle.sessions.specs.Pieces.{Joined, all_lines, Uncut}
 use Rattle.sessions.proofs.Ledgers.{answered-length}
 use Rattle.reports.specs.declared.ending.Ending.{Ending}
@@ -27,7 +26,7 @@ use Rattle.reports.specs.declared.ending.ReportRefusal as refusals
 use Rattle.reports.specs.Lines.{line_of, verdict_ending, ending_line}
 use Rattle.reports.specs.Report.{lines_from, ending_from, report}
 use Rattle.reports.specs.FileSteps.{unanswered, step_lines, report_lines}
-use Rattle.reports.specs.Told.{answer_text, told_text, told_end, ending_by}
+use Rattle.reports.specs.Told.{told_text, told_end, ending_by}
 
 -- the ending by a verdict
 abbrev pub ending_at : Job → World → Ending
@@ -46,16 +45,12 @@ module _ (job : Job) (known : LabelsStayKnown) (sound : Sound job) where
   look_told : (w : World) (ls : List Line) → known_to job w.state.label ≡ true →
       told_text (answered job w (unanswered call.TheVariants.Look ∷ ls)) ≡ line_of w ++ told_text (answered job w ls)
   unfolding answered told_text
-  look_told w ls h =
-      subst (λ (k : Bool). (elim (answer_text (Some (Seen (cond k (Ok (look_of job w)) (Err refusal.TheVariants.OtherJob))))) [ Ok bytes ↦ bytes ++ told_text (answered job w ls) | Err n ↦ [] ])
-      ≡ line_of w ++ told_text (answered job w ls)) (sym h) refl
+  look_told w ls h = rw (h, told_text) refl
 
   look_ends : (w : World) (ls : List Line) → known_to job w.state.label ≡ true →
       told_end (answered job w (unanswered call.TheVariants.Look ∷ ls)) ≡ told_end (answered job w ls)
   unfolding answered told_end
-  look_ends w ls h =
-      subst (λ (k : Bool). (elim (answer_text (Some (Seen (cond k (Ok (look_of job w)) (Err refusal.TheVariants.OtherJob))))) [ Ok bytes ↦ told_end (answered job w ls) | Err n ↦ Err n ])
-      ≡ told_end (answered job w ls)) (sym h) refl
+  look_ends w ls h = rw (h, told_end) refl
 
   -- a step and the look behind it, by what its checks come to
   text_by : (w : World) (s : Step) (ss : List Step) (r : Result Operation StepRefusal) → known_to job w.state.label ≡ true →

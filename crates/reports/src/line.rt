@@ -2,7 +2,7 @@ ghost use Rattle.std.specs.Prelude.{◌≡◌, ◌+◌, ◌≤◌, ◌++◌, len
 ghost use Rattle.reports.specs.Lines.{truth_word, field, look_line, numbered, ending_line};
 
 use crate::ending::Ending;
-use crate::text::{LONGEST_LINE, LONGEST_REPORT, Text};
+use crate::text::{LONGEST_FIELD, LONGEST_LINE, LONGEST_REPORT, Text};
 use labels::state::LabelState;
 use sessions::look::Look;
 
@@ -21,9 +21,9 @@ fn truth_word(truth: LabelState) -> &'static [u8]
 impl Text {
     // Writes a number and a space.
     fn push_field(&mut self, number: u64)
-        requires { length self.old + 21 ≤ LONGEST_REPORT }
+        requires { length self.old + LONGEST_FIELD ≤ LONGEST_REPORT }
         ensures items { self.new ≡ self.old ++ field number }
-        ensures short { length (field number) ≤ 21 }
+        ensures short { length (field number) ≤ LONGEST_FIELD }
     {
         self.push_number(number);
         self.push_bytes(b" ");

@@ -4,7 +4,10 @@ use crate::calls::MOST_CALLS;
 use std::alloc::{AllocError, Global};
 use std::marker::Model;
 
-// No line of a report is longer: three numbers of at most 20 digits, three spaces, a word and the line feed.
+// A number of at most 20 digits and a space.
+pub const LONGEST_FIELD: usize = 21;
+
+// No line of a report is longer: three fields, a word and the line feed.
 pub const LONGEST_LINE: usize = 70;
 
 // A line for each call, and one for the ending.

@@ -6,7 +6,6 @@ ghost use Rattle.reports.specs.Report.{report as report_of, ending_from};
 ghost use Rattle.reports.specs.Tells.{Tells};
 ghost use Rattle.reports.specs.FileReport.{Reports};
 
-use crate::answers::push_answers;
 use crate::calls::add_calls;
 use crate::ending::Ending;
 use crate::room::{ReportRoom, RunRoom};
@@ -43,7 +42,7 @@ fn report_steps<R: Register>(
     add_calls(&mut lines, file);
     let mut work = Work { register, lines };
     let closing = run_schedule(label, &mut workspace, job, &mut work);
-    let ending = match push_answers(text, work.lines.as_slice()) {
+    let ending = match text.push_answers(work.lines.as_slice()) {
         Ok(()) => Ending::from(&closing.verdict),
         Err(refusal) => Ending::Refused(refusal),
     };

@@ -29,7 +29,7 @@ returns g c =
     record {
       text =
           report-written job c.labels_stay_known.ensures c.ids-ids.ensures.sound m (steps_in c.args.file.now) (vec_items c.add_calls.new.lines) after verdict
-          c.match-push_answers.ending c.args.text.now c.push_answers.new.text _
+          c.match-push_answers.ending c.args.text.now c.push_answers.new.self _
           c.add_calls.ensures.items run c.requires.empty
           (c.push_answers.ensures.items ∙ ap (λ (t : List Line). c.args.text.now ++ told_text t) same) ending c.push_ending.ensures;
       tells = one-law job m _ (steps_in c.args.file.now) (vec_items c.add_calls.new.lines) after _ verdict c.add_calls.ensures.items run c.run_schedule-closing.ensures.law;

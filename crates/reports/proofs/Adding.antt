@@ -1,12 +1,14 @@
 -- The calls of a report are added step by step.
-use Rattle.std.proofs.Common.{◌≡◌, ℕ, suc, ◌+◌, ◌-◌, ◌*◌, ◌<◌, ◌≤◌, true, List, [], ◌∷◌, ◌++◌, length, is_ok, Ok, Err, Result, sym, ap, ◌∙◌, append_assoc, append-nil, arith}
+use Rattle.std.proofs.Common.{◌≡◌, ℕ, zero, suc, ◌+◌, ◌/◌, ◌*◌, ◌<◌, ◌≤◌, List, [], ◌∷◌, ◌++◌, map, length, get_or, take, drop, Ok, sym, refl, ap, ◌∙◌, append_assoc, append-nil, arith}
+use Rattle.std.proofs.lemmas.List.{get_or-take, get_or-drop, length-drop, drop-drop, drop_more, drop_all}
+use Rattle.std.specs.Simd.{first_chunks}
 use Rattle.goals.specs.declared.frame.Frame.{Frame}
-use Rattle.goals.specs.declared.file_fault.FrameFault.{FrameFault}
 use Rattle.goals.specs.Frame.{frame_of, framed}
 use Rattle.goals.proofs.FrameSteps.{accepted}
 use Rattle.sessions.specs.declared.call.Call as call
 use Rattle.sessions.specs.declared.call.Line.{Line}
-use Rattle.reports.specs.FileSteps.{step_at, steps_from, steps_in, unanswered, step_lines, report_lines}
+use Rattle.sessions.specs.declared.step.Step.{Step}
+use Rattle.reports.specs.FileSteps.{step_at, steps_from, steps_in, unanswered, step_lines}
 
 -- the steps of a framed file end where it does
 pub record StepsInside (file : List ℕ) (f : Frame) : Type 0 where
@@ -23,46 +25,40 @@ steps-inside file f e =
     let a = accepted file f e in
     record { whole = sym (ends file f a.frame) ∙ a.whole; short = a.short; own = a.frame }
 
+-- four bytes as a step
+abbrev pub step_of : List ℕ → Step
+step_of bytes = step_at bytes 0
+
+byte-of : (file : List ℕ) (at k : ℕ) → k < 4 → get_or (take 4 (drop at file)) k 0 ≡ get_or file (at + k) 0
+byte-of file at k h = get_or-take 4 (drop at file) k 0 h ∙ get_or-drop at file k 0
+
+four-bytes : (file : List ℕ) (at : ℕ) → step_of (take 4 (drop at file)) ≡ step_at file at
+four-bytes file at =
+    let first : at + 0 ≡ at = omega arith in
+    cc (ap (λ n. get_or file n 0) first, byte-of file at 0 (omega arith), byte-of file at 1 (omega arith), byte-of file at 2 (omega arith), byte-of file at 3 (omega arith))
+
+-- the file cut into fours is the file read step by step
+pub steps-cut : (file : List ℕ) (n at : ℕ) → map step_of (first_chunks 4 n (drop at file)) ≡ steps_from file n at
+unfolding steps_from
+steps-cut file zero at = refl
+steps-cut file (suc n) at = rw (drop-drop 4 at file, four-bytes file at, steps-cut file n (at + 4)) refl
+
 -- one step more, with the look behind it
-pub calls-more : (file : List ℕ) (n k at next : ℕ) (total xs ys zs : List Line) → k < n → next ≡ at + 4 →
-    ys ≡ xs ++ unanswered (call.TheVariants.Step (step_at file at)) ∷ [] → zs ≡ ys ++ unanswered call.TheVariants.Look ∷ [] →
-    total ≡ xs ++ step_lines (steps_from file (n - k) at) → total ≡ zs ++ step_lines (steps_from file (n - (k + 1)) next)
-unfolding step_lines steps_from
-calls-more file n k at next total xs ys zs less en ey ez et =
-    let left : n - k ≡ suc (n - (k + 1)) = omega arith in
-    let rest = step_lines (steps_from file (n - (k + 1)) (at + 4)) in
-    let x = unanswered (call.TheVariants.Step (step_at file at)) in
-    let y = unanswered call.TheVariants.Look in
-    et
-    ∙ (ap (λ m. xs ++ step_lines (steps_from file m at)) left
-    ∙ (sym (append_assoc xs (x ∷ []) (y ∷ rest))
-    ∙ (ap (λ (t : List Line). t ++ y ∷ rest) (sym ey)
-    ∙ (sym (append_assoc ys (y ∷ []) rest)
-    ∙ (ap (λ (t : List Line). t ++ rest) (sym ez) ∙ ap (λ m. zs ++ step_lines (steps_from file (n - (k + 1)) m)) (sym en))))))
+pub calls-more : (cs : List (List ℕ)) (i : ℕ) (d : List ℕ) (s : Step) (x y : Line) (xs ys zs : List Line) → i < length cs →
+    s ≡ step_of (get_or cs i d) → x ≡ unanswered (call.TheVariants.Step s) → y ≡ unanswered call.TheVariants.Look → ys ≡ xs ++ x ∷ [] → zs ≡ ys ++ y ∷ [] →
+    xs ++ step_lines (map step_of (drop i cs)) ≡ zs ++ step_lines (map step_of (drop (i + 1) cs))
+unfolding step_lines
+calls-more cs i d s x y xs ys zs less es ex en ey ez = rw (ez, ey, ex, en, es, drop_more cs i d less) (simp append_assoc)
 
 -- no step left
-pub calls-all : (file : List ℕ) (n k at : ℕ) (total xs : List Line) → n ≤ k → total ≡ xs ++ step_lines (steps_from file (n - k) at) → xs ≡ total
-unfolding step_lines steps_from
-calls-all file n k at total xs le e =
-    let none : n - k ≡ 0 = omega arith in
-    sym (e ∙ (ap (λ m. xs ++ step_lines (steps_from file m at)) none ∙ append-nil xs))
+pub calls-all : (cs : List (List ℕ)) (i : ℕ) (xs : List Line) → length cs ≤ i → xs ++ step_lines (map step_of (drop i cs)) ≡ xs
+unfolding step_lines
+calls-all cs i xs le = rw (drop_all i cs le) (append-nil xs)
 
--- the look at the opening
-pub calls-none : (file : List ℕ) (n at : ℕ) (xs ys : List Line) (x : Line) → length xs ≡ 0 → x ≡ unanswered call.TheVariants.Look → ys ≡ xs ++ x ∷ [] →
-    report_lines (steps_from file n at) ≡ ys ++ step_lines (steps_from file (n - 0) (at + 0))
-calls-none file n at (x ∷ xs) ys z none e ey = absurd (omega (arith, none))
-calls-none file n at [] ys z none e ey =
-    let p : n ≡ n - 0 = omega arith in
-    let q : at ≡ at + 0 = omega arith in
-    ap (λ m. unanswered call.TheVariants.Look ∷ step_lines (steps_from file m at)) p
-    ∙ (ap (λ m. unanswered call.TheVariants.Look ∷ step_lines (steps_from file (n - 0) m)) q
-    ∙ ap (λ (t : List Line). t ++ step_lines (steps_from file (n - 0) (at + 0))) (ap (λ t. t ∷ []) (sym e) ∙ sym ey))
-
--- a framed file is not refused
-pub never_refused : {A : Type 0} (r : Result Frame FrameFault) (e : FrameFault) → is_ok r ≡ true → r ≡ Err e → A
-never_refused (Ok f) e h is = let z : ◌≡◌ {A = ℕ} 0 1 = cc in absurd (omega arith)
-never_refused (Err x) e h is = let z : ◌≡◌ {A = ℕ} 0 1 = cc in absurd (omega arith)
-
--- the steps by the frame that was read are those of the file
-pub own-steps : (file : List ℕ) (f : Frame) → f ≡ frame_of file → steps_from file f.steps f.steps_at ≡ steps_in file
-own-steps file f e = ap (λ (g : Frame). steps_from file g.steps g.steps_at) e
+-- the last section cut into fours holds the steps of the file
+pub steps-read : (file : List ℕ) (f : Frame) → StepsInside file f → (section : List ℕ) (cs : List (List ℕ)) → section ≡ drop f.steps_at file →
+    cs ≡ first_chunks 4 (length section / 4) section → map step_of cs ≡ steps_in file
+steps-read file f inside section cs es ec =
+    let count : length section / 4 ≡ f.steps = omega (arith, ap length es, length-drop f.steps_at file, inside.whole) in
+    ap (map step_of) (ec ∙ (ap (λ n. first_chunks 4 n section) count ∙ ap (first_chunks 4 f.steps) es))
+    ∙ (steps-cut file f.steps f.steps_at ∙ ap (λ (g : Frame). steps_from file g.steps g.steps_at) inside.own)

@@ -1,13 +1,13 @@
 -- What a report ends with tells of the model and of the first FALSE label.
-use Rattle.std.proofs.Common.{◌≡◌, ℕ, true, false, cond, ◌⊎◌, ◌↔◌, List, [], ◌∷◌, ◌++◌, Some, None, Ok, Err, Option, Result, sym, refl, ap, ◌∙◌, subst, inl, inr, ⊎_elim, append-nil, arith}
+use Rattle.std.proofs.Common.{◌≡◌, ℕ, true, ◌⊎◌, ◌↔◌, List, [], ◌∷◌, ◌++◌, Some, None, Ok, Err, Option, Result, sym, refl, ap, ◌∙◌, subst, inl, inr, ⊎_elim, append-nil, arith}
 use Rattle.registers.specs.Meaning.{Meaning}
 use Rattle.goals.specs.declared.time.Span.{Span}
 use Rattle.goals.specs.declared.job.Job.{Job}
 use Rattle.goals.specs.declared.operation.Operation.{Operation}
-use Rattle.labels.specs.Labels.{Label, true_label, false_label, pending, not_label, and_label, or_label}
+use Rattle.labels.specs.Labels.{Label, false_label}
 use Rattle.labels.specs.Progress.{progressed}
 use Rattle.labels.specs.Idling.{idling}
-use Rattle.labels.specs.LabelCalls.{progress_of, known_to}
+use Rattle.labels.specs.LabelCalls.{progress_of}
 use Rattle.sessions.specs.declared.step.Step.{Step}
 use Rattle.sessions.specs.declared.step.Arguments.{Arguments}
 use Rattle.sessions.specs.declared.refusal.StepRefusal.{StepRefusal}
@@ -17,7 +17,6 @@ use Rattle.sessions.specs.declared.verdict.Verdict.{Verdict}
 use Rattle.sessions.specs.declared.call.Call.{Call}
 use Rattle.sessions.specs.declared.call.Call as call
 use Rattle.sessions.specs.declared.call.Line.{Line}
-use Rattle.sessions.specs.Refusals.{step_number}
 use Rattle.sessions.specs.State.{World, opened, advanced, is_false, broken_after}
 use Rattle.sessions.specs.Answers.{checked_at, step_after, after_call, after_calls, calls_in, idles_by, judgement_by, verdict_of}
 use Rattle.sessions.specs.Ledger.{Ledger, opening, ledger_from, ledger, entered_call, labels_from, new_labels, first_false, broken_step}
@@ -25,6 +24,8 @@ use Rattle.sessions.specs.Pieces.{Joined, all_lines}
 use Rattle.sessions.specs.Laws.{ModelKeeps, Law}
 use Rattle.reports.specs.declared.ending.Ending.{Ending}
 use Rattle.reports.specs.declared.ending.Ending.TheVariants.{Kept, NotKept, Broken, Refused}
+use Rattle.reports.specs.declared.ending.ReportRefusal.{ReportRefusal}
+use Rattle.reports.specs.declared.ending.ReportRefusal as refusal
 use Rattle.reports.specs.Lines.{judgement_ending, verdict_ending}
 use Rattle.reports.specs.Report.{ending_from}
 use Rattle.reports.specs.FileSteps.{step_lines, report_lines}
@@ -33,12 +34,7 @@ use Rattle.reports.proofs.Telling.{ending_at, Answered}
 
 -- a label that is told FALSE is FALSE
 false_is : (l : Label) → is_false l ≡ true → l ≡ false_label
-false_is true_label h = let z : ◌≡◌ {A = ℕ} 0 1 = cc in absurd (omega arith)
-false_is false_label h = refl
-false_is (pending n b e) h = let z : ◌≡◌ {A = ℕ} 0 1 = cc in absurd (omega arith)
-false_is (not_label q) h = let z : ◌≡◌ {A = ℕ} 0 1 = cc in absurd (omega arith)
-false_is (and_label q r) h = let z : ◌≡◌ {A = ℕ} 0 1 = cc in absurd (omega arith)
-false_is (or_label q r) h = let z : ◌≡◌ {A = ℕ} 0 1 = cc in absurd (omega arith)
+false_is l h = grind arith
 
 -- looks change neither the ledger nor its labels
 ledger-steps : (job : Job) (L : Ledger) (ss : List Step) → ledger_from job L (calls_in (step_lines ss)) ≡ ledger_from job L (step_calls ss)
@@ -70,12 +66,7 @@ module _ (job : Job) where
   stays_false m D l e = ap (progress_of job m D) e
 
   lost-by : (b : Option ℕ) (n k : ℕ) (l : Label) (was : (j : ℕ) → b ≡ Some j → l ≡ false_label) → broken_after b n l ≡ Some k → l ≡ false_label
-  lost-by (Some j) n k l was e = was j refl
-  lost-by None n k l was e =
-      (elim (is_false l) as (λ v. is_false l ≡ v → cond v (Some n) None ≡ Some k → l ≡ false_label) [
-        | true ↦ λ h _. false_is l h
-        | false ↦ λ h c. let z : ◌≡◌ {A = ℕ} 0 1 = cc in absurd (omega arith)
-      ]) refl e
+  lost-by b n k l was e = grind (arith, false_is)
 
   lost-step : (w : World) (a : Arguments) (r : Result Operation StepRefusal) → Lost w → Lost (step_after job w a r)
   lost-step w a (Err e) h k f = h k f
@@ -93,62 +84,35 @@ module _ (job : Job) where
   lost-calls (x ∷ xs) w h = lost-calls xs (after_call job w x) (lost_call w x h)
 
   lost-opened : (m : Meaning) → Lost (opened job m)
-  lost-opened m k e = let z : ◌≡◌ {A = ℕ} 0 1 = cc in absurd (omega arith)
+  lost-opened m k e = absurd (cc)
 
   -- a FALSE label is not kept
   false_judged : (m : Meaning) (l : Label) → l ≡ false_label → judgement_by job m l ≡ judgement.TheVariants.Kept → ⊥
   unfolding idles_by idling
-  false_judged m l e h =
-      (elim (known_to job false_label) as (λ v. cond v judgement.TheVariants.NotKept judgement.TheVariants.OtherJob ≡ judgement.TheVariants.Kept → ⊥) [
-        | true ↦ λ c. let z : ◌≡◌ {A = ℕ} 0 1 = cc in omega arith
-        | false ↦ λ c. let z : ◌≡◌ {A = ℕ} 0 1 = cc in omega arith
-      ]) (subst (λ (t : Label). judgement_by job m t ≡ judgement.TheVariants.Kept) e h)
+  false_judged m l e h = grind arith
 
   -- either every step is accepted, and the report ends with the verdict; or one is refused
   abbrev ByVerdict : World → List Step → Type 0
   ByVerdict w ss = Accepted job w ss × (ending_from job w ss ≡ ending_at job (after_calls job w (calls_in (step_lines ss))))
 
   abbrev ByRefusal : World → List Step → Type 0
-  ByRefusal w ss = (n : ℕ) × (ending_from job w ss ≡ Refused n) × (Accepted job w ss → ⊥)
-
-  -- how a report ends from a step on, by what its checks come to
-  abbrev ending_by_check : World → Step → List Step → Result Operation StepRefusal → Ending
-  ending_by_check w s ss (Ok o) = ending_from job (advanced job w s.arguments o) ss
-  ending_by_check w s ss (Err r) = Refused (step_number r)
-
-  ending_step : (w : World) (s : Step) (ss : List Step) (r : Result Operation StepRefusal) → checked_at job w s ≡ r → ending_from job w (s ∷ ss) ≡ ending_by_check w s ss r
-  unfolding ending_from
-  ending_step w s ss r e = ap (ending_by_check w s ss) e
-
-  after-step : (w : World) (s : Step) (ss : List Step) (r : Result Operation StepRefusal) → checked_at job w s ≡ r →
-      after_calls job w (calls_in (step_lines (s ∷ ss))) ≡ after_calls job (step_after job w s.arguments r) (calls_in (step_lines ss))
-  unfolding after_calls step_lines
-  after-step w s ss r e = ap (λ t. after_calls job (step_after job w s.arguments t) (calls_in (step_lines ss))) e
-
-  accepted_step : (w : World) (s : Step) (ss : List Step) (o : Operation) → checked_at job w s ≡ Ok o → Accepted job (advanced job w s.arguments o) ss → Accepted job w (s ∷ ss)
-  unfolding Accepted
-  accepted_step w s ss o e acc = (o, e, acc)
-
-  accepted_rest : (w : World) (s : Step) (ss : List Step) (o : Operation) → checked_at job w s ≡ Ok o → Accepted job w (s ∷ ss) → Accepted job (advanced job w s.arguments o) ss
-  unfolding Accepted
-  accepted_rest w s ss o e acc =
-      let same : acc.0 ≡ o = let f = acc.1 in cc in
-      subst (λ (x : Operation). Accepted job (advanced job w s.arguments x) ss) same acc.2
-
-  refused_none : (w : World) (s : Step) (ss : List Step) (r : StepRefusal) → checked_at job w s ≡ Err r → Accepted job w (s ∷ ss) → ⊥
-  unfolding Accepted
-  refused_none w s ss r e acc = let f = acc.1 in let z : ◌≡◌ {A = ℕ} 0 1 = cc in omega arith
+  ByRefusal w ss = (n : ReportRefusal) × (ending_from job w ss ≡ Refused n) × (Accepted job w ss → ⊥)
 
   ends_by : (w : World) (s : Step) (ss : List Step) (r : Result Operation StepRefusal) → checked_at job w s ≡ r →
       ((o : Operation) → ByVerdict (advanced job w s.arguments o) ss ⊎ ByRefusal (advanced job w s.arguments o) ss) →
       ByVerdict w (s ∷ ss) ⊎ ByRefusal w (s ∷ ss)
-  ends_by w s ss (Err r) e rest = inr (step_number r, ending_step w s ss (Err r) e, refused_none w s ss r e)
+  unfolding Accepted ending_from after_calls step_lines
+  ends_by w s ss (Err r) e rest = inr (refusal.TheVariants.Step r, rw (e, ending_from) refl, λ acc. let f = acc.1 in cc)
   ends_by w s ss (Ok o) e rest =
       ⊎_elim
-      (λ (v : ByVerdict (advanced job w s.arguments o) ss).
-      inl (accepted_step w s ss o e v.0, ending_step w s ss (Ok o) e ∙ (v.1 ∙ sym (ap (ending_at job) (after-step w s ss (Ok o) e)))))
-      (λ (v : ByRefusal (advanced job w s.arguments o) ss).
-      inr (v.0, ending_step w s ss (Ok o) e ∙ v.1, λ acc. v.2 (accepted_rest w s ss o e acc)))
+      (λ (v : ByVerdict (advanced job w s.arguments o) ss). inl ((o, e, v.0), rw (e, ending_from, after_calls) v.1))
+      (λ (v : ByRefusal (advanced job w s.arguments o) ss). inr (
+        v.0,
+        rw (e, ending_from) v.1,
+        λ acc.
+            let same : acc.0 ≡ o = let f = acc.1 in cc in
+            v.2 (subst (λ (x : Operation). Accepted job (advanced job w s.arguments x) ss) same acc.2),
+      ))
       (rest o)
 
   ends-either : (ss : List Step) (w : World) → ByVerdict w ss ⊎ ByRefusal w ss
@@ -158,22 +122,13 @@ module _ (job : Job) where
 
 -- what an ending by a verdict tells of the verdict
 ending_kept : (b : Option ℕ) (j : Judgement) → verdict_ending b j ≡ Kept → (b ≡ None) × (j ≡ judgement.TheVariants.Kept)
-ending_kept (Some k) j e = let z : ◌≡◌ {A = ℕ} 0 1 = cc in absurd (omega arith)
-ending_kept None judgement.TheVariants.Kept e = (refl, refl)
-ending_kept None judgement.TheVariants.NotKept e = let z : ◌≡◌ {A = ℕ} 0 1 = cc in absurd (omega arith)
-ending_kept None judgement.TheVariants.OtherJob e = let z : ◌≡◌ {A = ℕ} 0 1 = cc in absurd (omega arith)
+ending_kept b j e = (grind arith, grind arith)
 
 ending_not_kept : (b : Option ℕ) (j : Judgement) → verdict_ending b j ≡ NotKept → (b ≡ None) × (j ≡ judgement.TheVariants.NotKept)
-ending_not_kept (Some k) j e = let z : ◌≡◌ {A = ℕ} 0 1 = cc in absurd (omega arith)
-ending_not_kept None judgement.TheVariants.Kept e = let z : ◌≡◌ {A = ℕ} 0 1 = cc in absurd (omega arith)
-ending_not_kept None judgement.TheVariants.NotKept e = (refl, refl)
-ending_not_kept None judgement.TheVariants.OtherJob e = let z : ◌≡◌ {A = ℕ} 0 1 = cc in absurd (omega arith)
+ending_not_kept b j e = (grind arith, grind arith)
 
 ending_broken : (k : ℕ) (b : Option ℕ) (j : Judgement) → verdict_ending b j ≡ Broken k → b ≡ Some k
-ending_broken k (Some n) j e = cc
-ending_broken k None judgement.TheVariants.Kept e = let z : ◌≡◌ {A = ℕ} 0 1 = cc in absurd (omega arith)
-ending_broken k None judgement.TheVariants.NotKept e = let z : ◌≡◌ {A = ℕ} 0 1 = cc in absurd (omega arith)
-ending_broken k None judgement.TheVariants.OtherJob e = let z : ◌≡◌ {A = ℕ} 0 1 = cc in absurd (omega arith)
+ending_broken k b j e = grind arith
 
 none_or_some : (b : Option ℕ) → (b ≡ None) ⊎ ((k : ℕ) × (b ≡ Some k))
 none_or_some None = inl refl
@@ -225,10 +180,10 @@ module _ (job : Job) (m : Meaning) (ss : List Step) (after : List Line) (last : 
       (λ (v : ByRefusal job (opened job m) ss). inr v)
       (ends-either job ss (opened job m))
 
-  clash : {A : Type 0} (e : Ending) (n : ℕ) → Refused n ≡ e → (e ≡ Kept) ⊎ ((e ≡ NotKept) ⊎ ((k : ℕ) × (e ≡ Broken k))) → A
-  clash e n h (inl p) = let z : ◌≡◌ {A = ℕ} 0 1 = cc in absurd (omega arith)
-  clash e n h (inr (inl p)) = let z : ◌≡◌ {A = ℕ} 0 1 = cc in absurd (omega arith)
-  clash e n h (inr (inr p)) = let q = p.1 in let z : ◌≡◌ {A = ℕ} 0 1 = cc in absurd (omega arith)
+  clash : {A : Type 0} (e : Ending) (n : ReportRefusal) → Refused n ≡ e → (e ≡ Kept) ⊎ ((e ≡ NotKept) ⊎ ((k : ℕ) × (e ≡ Broken k))) → A
+  clash e n h (inl p) = absurd (cc)
+  clash e n h (inr (inl p)) = absurd (cc)
+  clash e n h (inr (inr p)) = let q = p.1 in absurd (cc)
 
   -- an ending that is no refusal comes with every step accepted, by the verdict
   owned : {A : Type 0} → (e : Ending) → (e ≡ Kept) ⊎ ((e ≡ NotKept) ⊎ ((k : ℕ) × (e ≡ Broken k))) → ending_from job (opened job m) ss ≡ e →

@@ -1,4 +1,3 @@
-pub mod Texts
 pub mod Adding
 pub mod Telling
 pub mod Writing

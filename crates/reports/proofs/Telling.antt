@@ -1,5 +1,5 @@
 -- The text of a schedule's answers is its report.
-use Rattle.std.proofs.Common.{◌≡◌, ℕ, Bool, true, cond, List, [], ◌∷◌, ◌++◌, length, Some, Ok, Err, Result, sym, refl, ap, ◌∙◌, subst, append_assoc, append-nil, arith}
+use Rattle.std.proofs.Common.{◌≡◌, ℕ, true, List, [], ◌∷◌, ◌++◌, length, Some, Ok, Err, Result, sym, refl, ap, ◌∙◌, append_assoc, append-nil}
 use Rattle.registers.specs.Meaning.{Meaning}
 use Rattle.goals.specs.declared.time.Span.{Span}
 use Rattle.goals.specs.declared.job.Job.{Job}
@@ -11,22 +11,22 @@ use Rattle.labels.specs.LabelCalls.{known_to, progress_of, opening_of}
 use Rattle.labels.specs.Claims.{LabelsStayKnown}
 use Rattle.sessions.specs.declared.step.Step.{Step}
 use Rattle.sessions.specs.declared.refusal.StepRefusal.{StepRefusal}
-use Rattle.sessions.specs.declared.refusal.LookRefusal as refusal
 use Rattle.sessions.specs.declared.verdict.Verdict.{Verdict}
 use Rattle.sessions.specs.declared.call.Call as call
-use Rattle.sessions.specs.declared.call.Answer.TheVariants.{Stepped, Seen}
+use Rattle.sessions.specs.declared.call.Answer.TheVariants.{Stepped}
 use Rattle.sessions.specs.declared.call.Line.{Line}
 use Rattle.sessions.specs.State.{World, opened, advanced}
-use Rattle.sessions.specs.Refusals.{step_number}
-use Rattle.sessions.specs.Answers.{checked_at, step_answer, step_after, look_of, calls_in, after_calls, answered, verdict_of}
+use Rattle.sessions.specs.Answers.{checked_at, step_answer, step_after, calls_in, after_calls, answered, verdict_of}
 use Rattle.sessions.specs.Pieces.{Joined, all_lines, Uncut}
 use Rattle.sessions.proofs.Ledgers.{answered-length}
 use Rattle.reports.specs.declared.ending.Ending.{Ending}
 use Rattle.reports.specs.declared.ending.Ending.TheVariants.{Refused}
+use Rattle.reports.specs.declared.ending.ReportRefusal.{ReportRefusal}
+use Rattle.reports.specs.declared.ending.ReportRefusal as refusals
 use Rattle.reports.specs.Lines.{line_of, verdict_ending, ending_line}
 use Rattle.reports.specs.Report.{lines_from, ending_from, report}
 use Rattle.reports.specs.FileSteps.{unanswered, step_lines, report_lines}
-use Rattle.reports.specs.Told.{answer_text, told_text, told_end, ending_by}
+use Rattle.reports.specs.Told.{told_text, told_end, ending_by}
 
 -- the ending by a verdict
 abbrev pub ending_at : Job → World → Ending
@@ -45,16 +45,12 @@ module _ (job : Job) (known : LabelsStayKnown) (sound : Sound job) where
   look_told : (w : World) (ls : List Line) → known_to job w.state.label ≡ true →
       told_text (answered job w (unanswered call.TheVariants.Look ∷ ls)) ≡ line_of w ++ told_text (answered job w ls)
   unfolding answered told_text
-  look_told w ls h =
-      subst (λ (k : Bool). (elim (answer_text (Some (Seen (cond k (Ok (look_of job w)) (Err refusal.TheVariants.OtherJob))))) [ Ok bytes ↦ bytes ++ told_text (answered job w ls) | Err n ↦ [] ])
-      ≡ line_of w ++ told_text (answered job w ls)) (sym h) refl
+  look_told w ls h = rw (h, told_text) refl
 
   look_ends : (w : World) (ls : List Line) → known_to job w.state.label ≡ true →
       told_end (answered job w (unanswered call.TheVariants.Look ∷ ls)) ≡ told_end (answered job w ls)
   unfolding answered told_end
-  look_ends w ls h =
-      subst (λ (k : Bool). (elim (answer_text (Some (Seen (cond k (Ok (look_of job w)) (Err refusal.TheVariants.OtherJob))))) [ Ok bytes ↦ told_end (answered job w ls) | Err n ↦ Err n ])
-      ≡ told_end (answered job w ls)) (sym h) refl
+  look_ends w ls h = rw (h, told_end) refl
 
   -- a step and the look behind it, by what its checks come to
   text_by : (w : World) (s : Step) (ss : List Step) (r : Result Operation StepRefusal) → known_to job w.state.label ≡ true →
@@ -83,7 +79,7 @@ module _ (job : Job) (known : LabelsStayKnown) (sound : Sound job) where
       ≡ ending_from job (advanced job w s.arguments o) ss) →
       ending_by (told_end (record { call = call.TheVariants.Step s; answer = Some (Stepped (step_answer r)) } ∷ answered job (step_after job w s.arguments r) (unanswered call.TheVariants.Look ∷ step_lines ss)))
       (ending_at job (after_calls job (step_after job w s.arguments r) (calls_in (step_lines ss))))
-      ≡ (elim r [ Ok o ↦ ending_from job (advanced job w s.arguments o) ss | Err e ↦ Refused (step_number e) ])
+      ≡ (elim r [ Ok o ↦ ending_from job (advanced job w s.arguments o) ss | Err e ↦ Refused (refusals.TheVariants.Step e) ])
   unfolding told_end
   end_by w s ss (Err e) h rest = refl
   end_by w s ss (Ok o) h rest =
@@ -141,24 +137,18 @@ one_piece job m n before after last verdict cut =
 
 -- what was written is the report
 pub report-written : (job : Job) → LabelsStayKnown → Sound job → (m : Meaning) (ss : List Step) (before after : List Line) (verdict : Verdict) (ending : Ending) (t₀ t₁ t₂ : List ℕ) →
-    before ≡ report_lines ss → Answered job m before after verdict → length t₀ ≡ 0 → t₁ ≡ t₀ ++ told_text after →
+    before ≡ report_lines ss → Answered job m before after verdict → t₀ ≡ [] → t₁ ≡ t₀ ++ told_text after →
     ending ≡ ending_by (told_end after) (verdict_ending verdict.broken verdict.judgement) → t₂ ≡ t₁ ++ ending_line ending → t₂ ≡ report job m ss
-report-written job known sound m ss before after verdict ending (x ∷ xs) t₁ t₂ eb run none e₁ ee e₂ = absurd (omega (arith, none))
-report-written job known sound m ss before after verdict ending [] t₁ t₂ eb run none e₁ ee e₂ =
+report-written job known sound m ss before after verdict ending t₀ t₁ t₂ eb run none e₁ ee e₂ =
     e₂
-    ∙ (ap (λ t. t ++ ending_line ending) e₁
+    ∙ (ap (λ t. t ++ ending_line ending) (e₁ ∙ ap (λ t. t ++ told_text after) none)
     ∙ (ap (λ e. told_text after ++ ending_line e) ee
     ∙ report-told job known sound m ss after verdict (run.lines ∙ ap (answered job (opened job m)) eb)
     (run.closed ∙ ap (λ t. verdict_of job (after_calls job (opened job m) (calls_in t))) eb)))
 
 -- the ending by the verdict, or by the first refusal
-pub ends_well : (u : Unit {0}) (r : Result (Unit {0}) ℕ) (ending last verdict : Ending) → Ok u ≡ r → last ≡ verdict → ending ≡ last → ending ≡ ending_by r verdict
+pub ends_well : (u : Unit {0}) (r : Result (Unit {0}) ReportRefusal) (ending last verdict : Ending) → Ok u ≡ r → last ≡ verdict → ending ≡ last → ending ≡ ending_by r verdict
 ends_well u r ending last verdict er ev ee = ee ∙ (ev ∙ ap (λ t. ending_by t verdict) er)
 
-pub ends-refused : (n : ℕ) (r : Result (Unit {0}) ℕ) (ending verdict : Ending) → Err n ≡ r → ending ≡ Refused n → ending ≡ ending_by r verdict
-ends-refused n r ending verdict er ee = ee ∙ ap (λ t. ending_by t verdict) er
-
--- a file that is refused
-pub refusal_written : (n k : ℕ) (t₀ t₁ : List ℕ) → length t₀ ≡ 0 → n ≡ k → t₁ ≡ t₀ ++ ending_line (Refused n) → t₁ ≡ ending_line (Refused k)
-refusal_written n k (x ∷ xs) t₁ none en e = absurd (omega (arith, none))
-refusal_written n k [] t₁ none en e = e ∙ ap (λ t. ending_line (Refused t)) en
+pub ends-refused : (e : ReportRefusal) (r : Result (Unit {0}) ReportRefusal) (ending verdict : Ending) → Err e ≡ r → ending ≡ Refused e → ending ≡ ending_by r verdict
+ends-refused e r ending verdict er ee = ee ∙ ap (λ t. ending_by t verdict) er

@@ -3,10 +3,10 @@ use Rattle.std.specs.Prelude.{◌≡◌, ℕ, List, Ok, Err, Result}
 use Rattle.registers.specs.Meaning.{Meaning}
 use Rattle.goals.specs.declared.job.Job.{Job}
 use Rattle.goals.specs.declared.fill_fault.FillFault.{FillFault}
-use Rattle.goals.specs.FaultNumbers.{fill_number}
 use Rattle.goals.specs.JobReading.{FillSays}
 use Rattle.sessions.specs.State.{opened}
 use Rattle.reports.specs.declared.ending.Ending.TheVariants.{Refused}
+use Rattle.reports.specs.declared.ending.ReportRefusal.TheVariants.{File}
 use Rattle.reports.specs.Lines.{ending_line}
 use Rattle.reports.specs.FileSteps.{steps_in}
 use Rattle.reports.specs.Report.{report, ending_from}
@@ -15,7 +15,7 @@ use Rattle.reports.specs.Tells.{Tells}
 -- the report of a file by what filling a register from it came to, and by what the register means then
 abbrev pub file_report : List ℕ → Meaning → Result Job FillFault → List ℕ
 file_report file filled (Ok job) = report job filled (steps_in file)
-file_report file filled (Err fault) = ending_line (Refused (fill_number fault))
+file_report file filled (Err fault) = ending_line (Refused (File fault))
 
 -- what the last line tells, where the file is not refused
 abbrev pub TellsOf : List ℕ → Meaning → Result Job FillFault → Type 0

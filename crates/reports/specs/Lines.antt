@@ -6,11 +6,14 @@ use Rattle.labels.specs.declared.state.LabelState.TheVariants.{True, False, Open
 use Rattle.labels.specs.Size.{size}
 use Rattle.labels.specs.LabelCalls.{state_of}
 use Rattle.sessions.specs.declared.look.Look.{Look}
+use Rattle.sessions.specs.declared.refusal.LookRefusal as refusal
 use Rattle.sessions.specs.declared.verdict.Judgement.{Judgement}
 use Rattle.sessions.specs.declared.verdict.Judgement as judgement
 use Rattle.sessions.specs.State.{World}
 use Rattle.reports.specs.declared.ending.Ending.{Ending}
 use Rattle.reports.specs.declared.ending.Ending.TheVariants.{Kept, NotKept, Broken, Refused}
+use Rattle.reports.specs.declared.ending.ReportRefusal.TheVariants.{Look as look_refused}
+use Rattle.reports.specs.Refusals.{refusal_number}
 
 abbrev pub line_feed : List ℕ
 line_feed = 10 ∷ []
@@ -25,7 +28,7 @@ abbrev pub field : ℕ → List ℕ
 field n = decimal n ++ codes " "
 
 -- number, hour, size of the label, and whether the label is true, false or open
-unfoldable pub line_by : ℕ → ℕ → ℕ → LabelState → List ℕ
+abbrev pub line_by : ℕ → ℕ → ℕ → LabelState → List ℕ
 line_by number hour size truth = field number ++ (field hour ++ (field size ++ (truth_word truth ++ line_feed)))
 
 -- the line of a session that stands so
@@ -40,16 +43,16 @@ look_line look = line_by look.number look.hour.hours look.size look.truth
 abbrev pub numbered : List ℕ → ℕ → List ℕ
 numbered words n = words ++ (decimal n ++ line_feed)
 
-unfoldable pub ending_line : Ending → List ℕ
+abbrev pub ending_line : Ending → List ℕ
 ending_line Kept = codes "kept" ++ line_feed
 ending_line NotKept = codes "not kept" ++ line_feed
 ending_line (Broken k) = numbered (codes "broken ") k
-ending_line (Refused n) = numbered (codes "refused ") n
+ending_line (Refused r) = numbered (codes "refused ") (refusal_number r)
 
 abbrev pub judgement_ending : Judgement → Ending
 judgement_ending judgement.TheVariants.Kept = Kept
 judgement_ending judgement.TheVariants.NotKept = NotKept
-judgement_ending judgement.TheVariants.OtherJob = Refused 10
+judgement_ending judgement.TheVariants.OtherJob = Refused (look_refused refusal.TheVariants.OtherJob)
 
 -- a broken step is named whatever the judgement
 abbrev pub verdict_ending : Option ℕ → Judgement → Ending

@@ -4,11 +4,11 @@ use Rattle.std.specs.Prelude.{ℕ, List, [], ◌∷◌, ◌++◌, Ok, Err}
 use Rattle.registers.specs.Meaning.{Meaning}
 use Rattle.goals.specs.declared.job.Job.{Job}
 use Rattle.sessions.specs.declared.step.Step.{Step}
-use Rattle.sessions.specs.Refusals.{step_number}
 use Rattle.sessions.specs.State.{World, opened, advanced}
 use Rattle.sessions.specs.Answers.{checked_at, verdict_of}
 use Rattle.reports.specs.declared.ending.Ending.{Ending}
 use Rattle.reports.specs.declared.ending.Ending.TheVariants.{Refused}
+use Rattle.reports.specs.declared.ending.ReportRefusal as refusal
 use Rattle.reports.specs.Lines.{line_of, verdict_ending, ending_line}
 
 -- the lines of the steps that are accepted, up to the first that is refused
@@ -26,7 +26,7 @@ ending_from job w [] = verdict_ending w.state.broken (verdict_of job w).judgemen
 ending_from job w (step ∷ steps) =
     elim (checked_at job w step) [
       | Ok o ↦ ending_from job (advanced job w step.arguments o) steps
-      | Err r ↦ Refused (step_number r)
+      | Err r ↦ Refused (refusal.TheVariants.Step r)
     ]
 
 -- the report of a job's steps over a register that means m

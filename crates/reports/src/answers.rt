@@ -1,38 +1,36 @@
-ghost use Rattle.std.specs.Prelude.{◌≡◌, ◌+◌, ◌*◌, ◌≤◌, ◌++◌, length, vec_len, vec_capacity};
+ghost use Rattle.std.specs.Prelude.{◌≡◌, ◌+◌, ◌*◌, ◌≤◌, ◌++◌, length};
 ghost use Rattle.reports.specs.Told.{answer_text, added_text, refusal_of, told_text, told_end};
 
-use crate::line::write_look;
+use crate::ending::ReportRefusal;
+use crate::text::{LONGEST_LINE, LONGEST_REPORT, Text};
 use sessions::call::{Answer, Line};
 
-// Writes the line of a look, and gives the number of a refusal.
-fn write_answer(text: &mut Vec<u8>, answer: Option<Answer>) -> Result<(), u8>
-    requires { vec_len text.old + 70 ≤ vec_capacity text.old }
-    ensures items { text.new.items ≡ text.old.items ++ added_text (answer_text answer) }
-    ensures refusal { result ≡ refusal_of (answer_text answer) }
-    ensures len { vec_len text.new ≤ vec_len text.old + 70 }
-    ensures room { vec_capacity text.old ≤ vec_capacity text.new }
-{
-    match answer {
-        None => Ok(()),
-        Some(Answer::Stepped(Ok(()))) => Ok(()),
-        Some(Answer::Stepped(Err(refusal))) => Err(refusal.number()),
-        Some(Answer::Seen(Ok(look))) => {
-            write_look(text, look);
-            Ok(())
+impl Text {
+    // Writes the line of a look, and gives a refusal.
+    fn push_answer(&mut self, answer: Option<Answer>) -> Result<(), ReportRefusal>
+        requires { length self.old + LONGEST_LINE ≤ LONGEST_REPORT }
+        ensures items { self.new ≡ self.old ++ added_text (answer_text answer) }
+        ensures refusal { result ≡ refusal_of (answer_text answer) }
+        ensures short { length (added_text (answer_text answer)) ≤ LONGEST_LINE }
+    {
+        match answer {
+            None => {}
+            Some(Answer::Stepped(outcome)) => outcome?,
+            Some(Answer::Seen(outcome)) => self.push_look(outcome?),
         }
-        Some(Answer::Seen(Err(refusal))) => Err(refusal.number()),
+        Ok(())
     }
-}
 
-// Writes the lines of the looks up to the first refusal, and gives its number.
-pub fn write_answers(text: &mut Vec<u8>, lines: &[Line]) -> Result<(), u8>
-    requires { vec_len text.old + 70 * length lines.now + 70 ≤ vec_capacity text.old }
-    ensures items { text.new.items ≡ text.old.items ++ told_text lines.now }
-    ensures end { result ≡ told_end lines.now }
-    ensures room { vec_len text.new + 70 ≤ vec_capacity text.new }
-{
-    for line in lines {
-        write_answer(text, line.answer)?;
+    // Writes the lines of the looks up to the first refusal, and gives that.
+    pub fn push_answers(&mut self, lines: &[Line]) -> Result<(), ReportRefusal>
+        requires { length self.old + LONGEST_LINE * (length lines.now + 1) ≤ LONGEST_REPORT }
+        ensures items { self.new ≡ self.old ++ told_text lines.now }
+        ensures end { result ≡ told_end lines.now }
+        ensures room { length self.new + LONGEST_LINE ≤ LONGEST_REPORT }
+    {
+        for line in lines {
+            self.push_answer(line.answer)?;
+        }
+        Ok(())
     }
-    Ok(())
 }

@@ -1,4 +1,4 @@
-ghost use Rattle.std.specs.Prelude.{◌≡◌, ◌≤◌, true, is_ok, vec_len, vec_capacity};
+ghost use Rattle.std.specs.Prelude.{◌≡◌, true, [], is_ok};
 ghost use Rattle.goals.specs.Frame.{framed};
 ghost use Rattle.reports.specs.FileSteps.{steps_in};
 ghost use Rattle.sessions.specs.State.{opened};
@@ -6,11 +6,10 @@ ghost use Rattle.reports.specs.Report.{report as report_of, ending_from};
 ghost use Rattle.reports.specs.Tells.{Tells};
 ghost use Rattle.reports.specs.FileReport.{Reports};
 
-use crate::answers::write_answers;
 use crate::calls::add_calls;
 use crate::ending::Ending;
-use crate::line::{ending_of, write_ending};
 use crate::room::{ReportRoom, RunRoom};
+use crate::text::Text;
 use goals::job::Job;
 use goals::read_job::fill;
 use labels::theorems::labels_stay_known;
@@ -20,16 +19,15 @@ use sessions::schedule::run_schedule;
 
 // Runs the steps of a file on its job, from its filled register, and writes their report into an empty text.
 fn report_steps<R: Register>(
-    text: &mut Vec<u8>,
+    text: &mut Text,
     room: RunRoom,
     job: &Job,
     register: &mut R,
     file: &[u8],
 )
-    requires empty { vec_len text.old ≡ 0 }
-    requires room { 1400140 ≤ vec_capacity text.old }
+    requires empty { text.old ≡ [] }
     requires framed { is_ok (framed file.now) ≡ true }
-    ensures text { text.new.items ≡ report_of job.now (R.Register.meaning register.old) (steps_in file.now) }
+    ensures text { text.new ≡ report_of job.now (R.Register.meaning register.old) (steps_in file.now) }
     ensures tells { Tells job.now (R.Register.meaning register.old) (steps_in file.now)
         (ending_from job.now (opened job.now (R.Register.meaning register.old)) (steps_in file.now)) }
 {
@@ -43,25 +41,23 @@ fn report_steps<R: Register>(
     add_calls(&mut lines, file);
     let mut work = Work { register, lines };
     let closing = run_schedule(label, &mut workspace, job, &mut work);
-    let ending = match write_answers(text, work.lines.as_slice()) {
-        Ok(()) => ending_of(&closing.verdict),
-        Err(number) => Ending::Refused(number),
+    let ending = match text.push_answers(work.lines.as_slice()) {
+        Ok(()) => Ending::from(&closing.verdict),
+        Err(refusal) => Ending::Refused(refusal),
     };
-    write_ending(text, ending);
+    text.push_ending(ending);
 }
 
 // The report of an edition file over a register, as bytes: the register is filled with the file's facts, the file's steps
 // are run on its job, and each call's answer is written down up to the first refusal, then the verdict. A file that is
 // refused gives its number alone.
-pub fn report<R: Register + Drop>(room: ReportRoom, register: R, file: &[u8]) -> Vec<u8>
+pub fn report<R: Register + Drop>(room: ReportRoom, mut register: R, file: &[u8]) -> Vec<u8>
     ensures { Reports (R.Register.meaning register) file.now result.items }
 {
-    let ReportRoom { job, run, text } = room;
-    let mut text = text;
-    let mut register = register;
+    let ReportRoom { job, run, mut text } = room;
     match fill(&mut register, file, job) {
         Ok(job) => report_steps(&mut text, run, &job, &mut register, file),
-        Err(fault) => write_ending(&mut text, Ending::Refused(fault.number())),
+        Err(fault) => text.push_ending(Ending::Refused(fault.into())),
     }
-    text
+    text.into_bytes()
 }

@@ -1,6 +1,7 @@
 -- The puts of an operation that keeps within its bounds, under arguments that fit it, may all be held.
-use Rattle.std.proofs.Common.{◌≡◌, ℕ, ◌<◌, ◌≤◌, Bool, true, false, cond, eqb, ltb, leb, List, [], ◌∷◌, map, ◌∙◌, arith}
-use Rattle.std.proofs.lemmas.Bool.{and_parts, and_from, ltb-true, leb-true, lt-ltb, eqb-true}
+use Rattle.std.proofs.Common.{◌≡◌, ℕ, ◌<◌, ◌≤◌, Bool, true, false, cond, eqb, ltb, List, [], ◌∷◌, map, ◌∙◌, arith}
+use Rattle.std.proofs.lemmas.Bool.Decides.{nat_tests}
+use Rattle.std.proofs.lemmas.Bool.{and_parts, and_from, ltb-true}
 use Rattle.registers.specs.Meaning.{allowed, all_allowed}
 use Rattle.registers.proofs.ListLaws.{allowed_cons, allowed-none}
 use Rattle.goals.specs.declared.operation.EntryTerm.{EntryTerm}
@@ -15,8 +16,7 @@ use Rattle.sessions.specs.Steps.{term_id, ground, ground_all, argument_fits, arg
 module _ (N parameters : ℕ) (a : Arguments) (few : N ≤ 128) (some : 0 < N) (fit : arguments_fit N parameters a ≡ true) where
   -- an argument is below N, used or not
   argument-below : (used : Bool) (x : ℕ) → argument_fits N used x ≡ true → x < N
-  argument-below true x h = ltb-true x N h
-  argument-below false x h = let e : x ≡ 0 = eqb-true x 0 h in omega arith
+  argument-below used x h = grind (arith, nat_tests)
 
   parts : (argument_fits N (ltb 0 parameters) a.first ≡ true) × (argument_fits N (ltb 1 parameters) a.second ≡ true) × (argument_fits N (ltb 2 parameters) a.third ≡ true)
   parts =
@@ -35,13 +35,7 @@ module _ (N parameters : ℕ) (a : Arguments) (few : N ≤ 128) (some : 0 < N) (
   term_below (Parameter k) h = pick (eqb k 0) (eqb k 1) (eqb k 2)
 
   entry_allowed : (e : Entry) → entry_inside N parameters e ≡ true → allowed (ground a e) ≡ true
-  entry_allowed e h =
-      let p = and_parts (ltb e.predicate 16) _ h in
-      let q = and_parts (term_inside N parameters e.first) _ p.1 in
-      and_from (ltb e.predicate 16) _ p.0
-      (and_from (ltb (term_id a e.first) 128) _
-      (lt-ltb (term_id a e.first) 128 (omega (arith, term_below e.first q.0)))
-      (lt-ltb (term_id a e.second) 128 (omega (arith, term_below e.second q.1))))
+  entry_allowed e h = grind (arith, nat_tests, term_below)
 
   entries-allowed : (es : List Entry) → entries_inside N parameters es ≡ true → all_allowed (map (ground a) es) ≡ true
   unfolding entries_inside
@@ -50,17 +44,11 @@ module _ (N parameters : ℕ) (a : Arguments) (few : N ≤ 128) (some : 0 < N) (
       let p = and_parts (entry_inside N parameters e) (entries_inside N parameters es) h in
       allowed_cons (ground a e) (map (ground a) es) ∙ and_from (allowed (ground a e)) _ (entry_allowed e p.0) (entries-allowed es p.1)
 
--- what a step's operation promises, part by part
-pub record KeptBounds (N : ℕ) (o : Operation) (a : Arguments) : Type 0 where
-  pub puts : all_allowed (ground_all a o.puts) ≡ true
-  pub span : o.span.hours ≤ 1000
-
-pub puts-allowed : (N : ℕ) (o : Operation) (a : Arguments) → N ≤ 128 → 0 < N → Inside N o → arguments_fit N o.parameters a ≡ true → KeptBounds N o a
+-- what a step's operation promises
+pub puts-allowed : (N : ℕ) (o : Operation) (a : Arguments) → N ≤ 128 → 0 < N → Inside N o → arguments_fit N o.parameters a ≡ true → all_allowed (ground_all a o.puts) ≡ true
 unfolding operation_inside
-puts-allowed N o a few some inside fit =
-    let within = entries_inside N o.parameters in
-    let p = and_parts (leb o.parameters 3) _ inside in
-    let q = and_parts (leb o.span.hours 1000) _ p.1 in
-    let r = and_parts (within (entries_of o.needs)) _ q.1 in
-    let s = and_parts (within (entries_of o.takes)) (within (entries_of o.puts)) r.1 in
-    record { puts = entries-allowed N o.parameters a few some fit (entries_of o.puts) s.1; span = leb-true o.span.hours 1000 q.0 }
+puts-allowed N o a few some inside fit = grind (arith, nat_tests, entries-allowed N o.parameters a few some fit (entries_of o.puts))
+
+pub span-short : (N : ℕ) (o : Operation) → Inside N o → o.span.hours ≤ 1000
+unfolding operation_inside
+span-short N o inside = grind (arith, nat_tests)

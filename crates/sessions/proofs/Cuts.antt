@@ -1,5 +1,6 @@
 -- Cutting a list of calls changes nothing, if each piece begins with what stands there.
 use Rattle.std.proofs.Common.{◌≡◌, List, [], ◌∷◌, ◌++◌, map, length, Some, sym, refl, ap, ◌∙◌, subst, append-nil}
+use Rattle.std.proofs.lemmas.List.{map-append}
 use Rattle.std.specs.List.{slice_get}
 use Rattle.registers.specs.Meaning.{Meaning}
 use Rattle.goals.specs.declared.job.Job.{Job}
@@ -8,12 +9,8 @@ use Rattle.sessions.specs.declared.call.Call.{Call}
 use Rattle.sessions.specs.declared.call.Line.{Line}
 use Rattle.sessions.specs.State.{World}
 use Rattle.sessions.specs.Answers.{after_call, after_calls, answered, answer_to, calls_in, verdict_of}
-use Rattle.sessions.specs.Pieces.{Part, taken_up, state_after, parts_after, Joined, all_lines, last_facts, Uncut}
+use Rattle.sessions.specs.Pieces.{Part, taken_up, parts_after, Joined, all_lines, Uncut}
 use Rattle.sessions.specs.Laws.{last_world, CuttingChangesNothing}
-
-calls-append : (xs ys : List Line) → calls_in (xs ++ ys) ≡ calls_in xs ++ calls_in ys
-calls-append [] ys = refl
-calls-append (x ∷ xs) ys = ap (λ t. x.call ∷ t) (calls-append xs ys)
 
 module _ (job : Job) where
   after-append : (w : World) (xs ys : List Call) → after_calls job w (xs ++ ys) ≡ after_calls job (after_calls job w xs) ys
@@ -24,7 +21,7 @@ module _ (job : Job) where
   -- where two lists of calls lead, one behind the other
   pub after_both : (w : World) (xs ys : List Line) →
       after_calls job w (calls_in (xs ++ ys)) ≡ after_calls job (after_calls job w (calls_in xs)) (calls_in ys)
-  after_both w xs ys = ap (after_calls job w) (calls-append xs ys) ∙ after-append w (calls_in xs) (calls_in ys)
+  after_both w xs ys = ap (after_calls job w) (map-append (λ (x : Line). x.call) xs ys) ∙ after-append w (calls_in xs) (calls_in ys)
 
   pub answered-both : (w : World) (xs ys : List Line) →
       answered job w (xs ++ ys) ≡ answered job w xs ++ answered job (after_calls job w (calls_in xs)) ys
@@ -34,7 +31,7 @@ module _ (job : Job) where
       ap (λ t. record { call = x.call; answer = Some (answer_to job w x.call) } ∷ t) (answered-both (after_call job w x.call) xs ys)
 
   cut-answers : (w : World) (ps : List Part) → Joined job w ps → all_lines (parts_after job w.state ps) ≡ answered job w (all_lines ps)
-  unfolding answered parts_after Joined all_lines
+  unfolding answered Joined all_lines
   cut-answers w [] h = refl
   cut-answers w (p ∷ ps) h =
       let e : taken_up w.state p ≡ w = ap (λ f. record { state = w.state; facts = f }) h.0 in
@@ -43,7 +40,7 @@ module _ (job : Job) where
       ∙ sym (answered-both w p.lines (all_lines ps)))
 
   cut_stands : (w : World) (ps : List Part) → Joined job w ps → last_world job w ps ≡ after_calls job w (calls_in (all_lines ps))
-  unfolding after_calls state_after parts_after Joined all_lines last_facts
+  unfolding after_calls Joined all_lines
   cut_stands w [] h = refl
   cut_stands w (p ∷ ps) h =
       let e : taken_up w.state p ≡ w = ap (λ f. record { state = w.state; facts = f }) h.0 in
@@ -55,7 +52,7 @@ module _ (job : Job) where
 
   cut-registers : (w : World) (xs : List Part) (p : Part) (ys : List Part) → Joined job w (xs ++ p ∷ ys) →
       slice_get (meanings (parts_after job w.state (xs ++ p ∷ ys))) (length xs) ≡ Some (after_calls job w (calls_in (all_lines (xs ++ p ∷ [])))).facts
-  unfolding parts_after Joined all_lines
+  unfolding Joined all_lines
   cut-registers w [] p ys h =
       let e : taken_up w.state p ≡ w = ap (λ f. record { state = w.state; facts = f }) h.0 in
       ap (λ (v : World). Some (after_calls job v (calls_in p.lines)).facts) e

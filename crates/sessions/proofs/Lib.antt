@@ -6,4 +6,3 @@ pub mod Taking
 pub mod Failing
 pub mod Bounds
 pub mod Turns
-pub mod Checking

@@ -1,5 +1,5 @@
 -- The accepted steps of a list of calls as a run of labels, and the law of a session's calls from the claims about labels.
-use Rattle.std.proofs.Common.{◌≡◌, ℕ, Bool, true, false, cond, T, ◌↔◌, List, [], ◌∷◌, ◌++◌, length, Some, Ok, Err, Result, sym, refl, ap, ◌∙◌, subst, arith}
+use Rattle.std.proofs.Common.{◌≡◌, ℕ, Bool, true, cond, T, ◌↔◌, List, [], ◌∷◌, ◌++◌, length, Some, Ok, Err, Result, sym, refl, ap, ◌∙◌, subst, arith}
 use mathlib.Core.Logic.Iff
 use Rattle.std.specs.List.{slice_get}
 use Rattle.registers.specs.Meaning.{Meaning}
@@ -30,14 +30,10 @@ use Rattle.sessions.proofs.Ledgers.{session_stands, answered-at, answered-length
 
 -- what a verdict tells where the job knows the label
 kept-tells : (r : Judgement) (k i : Bool) → k ≡ true → r ≡ cond k (cond i Kept NotKept) OtherJob → (r ≡ Kept) ↔ T i
-kept-tells r false i h e = let z : ◌≡◌ {A = ℕ} 0 1 = cc in absurd (omega arith)
-kept-tells r true true h e = ((λ _. tt), (λ _. e))
-kept-tells r true false h e = ((λ k. let z : ◌≡◌ {A = ℕ} 0 1 = cc in absurd (omega arith)), (λ t. absurd t))
+kept-tells r k i h e = (λ x. grind arith, λ t. grind arith)
 
 not_kept-tells : (r : Judgement) (k i : Bool) → k ≡ true → r ≡ cond k (cond i Kept NotKept) OtherJob → (r ≡ NotKept) ↔ (¬ (T i))
-not_kept-tells r false i h e = let z : ◌≡◌ {A = ℕ} 0 1 = cc in absurd (omega arith)
-not_kept-tells r true true h e = ((λ n. let z : ◌≡◌ {A = ℕ} 0 1 = cc in absurd (omega arith)), (λ f. absurd (f tt)))
-not_kept-tells r true false h e = ((λ _ t. t), (λ _. e))
+not_kept-tells r k i h e = (λ x. grind arith, λ t. grind arith)
 
 -- what the labels promise
 pub record Promised : Type 0 where

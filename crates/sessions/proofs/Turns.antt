@@ -1,5 +1,5 @@
--- One turn of a loop over calls, the end of the loop, and one piece before others.
-use Rattle.std.proofs.Common.{◌≡◌, ℕ, ◌+◌, ◌<◌, ◌≤◌, List, [], ◌∷◌, ◌++◌, length, get_or, take, drop, set, Some, sym, ap, ◌∙◌, subst, append_assoc, append-nil, arith}
+-- One turn of a loop over calls, the end of the loop, and what a run of pieces came to.
+use Rattle.std.proofs.Common.{◌≡◌, ℕ, ◌+◌, ◌<◌, ◌≤◌, List, ◌∷◌, ◌++◌, length, get_or, take, drop, set, Some, sym, refl, ap, ◌∙◌, subst, append_assoc, append-nil, arith}
 use Rattle.std.proofs.lemmas.List.{drop_more, drop_all, take_all, take_more_set, drop-set-lt}
 use Rattle.goals.specs.declared.job.Job.{Job}
 use Rattle.goals.specs.JobView.{ids_of, nodes_of, root_of, SoundJob}
@@ -8,38 +8,27 @@ use Rattle.sessions.specs.declared.call.Line.{Line}
 use Rattle.sessions.specs.declared.call.Answer.{Answer}
 use Rattle.sessions.specs.State.{State, World, opened_state, opened}
 use Rattle.sessions.specs.Answers.{answer_to, after_call, after_calls, answered, calls_in, verdict_of}
-use Rattle.sessions.specs.Pieces.{Part, taken_up, after_part, state_after, parts_after, Joined, all_lines, last_facts, Uncut}
+use Rattle.sessions.specs.Pieces.{Part, state_after, parts_after, Joined, all_lines, last_facts, Uncut}
 use Rattle.sessions.specs.Laws.{last_world, Law, RunsKeepTheLaw}
 use Rattle.sessions.proofs.Cuts.{uncut_of}
 
 module _ (job : Job) where
-  module _ (ls : List Line) (i : ℕ) (x : Line) (h : i < length ls) (ex : x ≡ get_or ls i x) where
-    from-here : drop i ls ≡ x ∷ drop (i + 1) ls
-    from-here = drop_more ls i x h ∙ ap (λ t. t ∷ drop (i + 1) ls) (sym ex)
-
+  module _ (ls : List Line) (i : ℕ) (d : Line) (h : i < length ls) where
     -- where the lines from i on lead, once line i was answered
-    pub after_turn : (w v : World) (y : Line) → v ≡ after_call job w x.call →
+    pub after_turn : (w v : World) (y : Line) → v ≡ after_call job w (get_or ls i d).call →
         after_calls job w (calls_in (drop i ls)) ≡ after_calls job v (calls_in (drop (i + 1) (set ls i y)))
     unfolding after_calls
-    after_turn w v y e =
-        ap (λ t. after_calls job w (calls_in t)) from-here
-        ∙ (ap (λ u. after_calls job u (calls_in (drop (i + 1) ls))) (sym e)
-        ∙ ap (λ t. after_calls job v (calls_in t)) (sym (drop-set-lt (i + 1) ls i y (omega arith))))
+    after_turn w v y e = rw (drop-set-lt (i + 1) ls i y (omega arith), drop_more ls i d h, e) refl
 
     -- the lines answered so far, and the rest as they will be
-    pub answered_turn : (w v : World) (a : Answer) → a ≡ answer_to job w x.call → v ≡ after_call job w x.call →
+    pub answered_turn : (w v : World) (a : Answer) → a ≡ answer_to job w (get_or ls i d).call → v ≡ after_call job w (get_or ls i d).call →
         take i ls ++ answered job w (drop i ls)
-        ≡ take (i + 1) (set ls i (record { call = x.call; answer = Some a }))
-        ++ answered job v (drop (i + 1) (set ls i (record { call = x.call; answer = Some a })))
+        ≡ take (i + 1) (set ls i (record { call = (get_or ls i d).call; answer = Some a }))
+        ++ answered job v (drop (i + 1) (set ls i (record { call = (get_or ls i d).call; answer = Some a })))
     unfolding answered
     answered_turn w v a ea e =
-        let y : Line = record { call = x.call; answer = Some a } in
-        ap (λ t. take i ls ++ answered job w t) from-here
-        ∙ (ap (λ b. take i ls ++ (record { call = x.call; answer = Some b } ∷ answered job (after_call job w x.call) (drop (i + 1) ls))) (sym ea)
-        ∙ (ap (λ u. take i ls ++ (y ∷ answered job u (drop (i + 1) ls))) (sym e)
-        ∙ (sym (append_assoc (take i ls) (y ∷ []) (answered job v (drop (i + 1) ls)))
-        ∙ (ap (λ t. t ++ answered job v (drop (i + 1) ls)) (sym (take_more_set ls i y h))
-        ∙ ap (λ t. take (i + 1) (set ls i y) ++ answered job v t) (sym (drop-set-lt (i + 1) ls i y (omega arith)))))))
+        let y : Line = record { call = (get_or ls i d).call; answer = Some a } in
+        rw (take_more_set ls i y h, drop-set-lt (i + 1) ls i y (omega arith), drop_more ls i d h, ea, e, append_assoc) refl
 
   pub after-end : (w : World) (ls : List Line) (i : ℕ) → length ls ≤ i → after_calls job w (calls_in (drop i ls)) ≡ w
   unfolding after_calls
@@ -50,19 +39,6 @@ module _ (job : Job) where
   answered-end w ls i h =
       ap (λ t. take i ls ++ answered job w t) (drop_all i ls h) ∙ (append-nil (take i ls) ∙ take_all i ls h)
 
-  -- a piece, and then the others
-  pub piece_run : (s t t' r : State) (p q : Part) (ps qs : List Part) →
-      ◌≡◌ {A = World} (record { state = t; facts = q.facts }) (after_part job s p) →
-      q.lines ≡ answered job (taken_up s p) p.lines → t' ≡ t → r ≡ state_after job t' ps → qs ≡ parts_after job t' ps →
-      (r ≡ state_after job s (p ∷ ps)) × (◌≡◌ {A = List Part} (q ∷ qs) (parts_after job s (p ∷ ps)))
-  unfolding state_after parts_after
-  piece_run s t t' r p q ps qs ea el et er eq =
-      let es : t' ≡ (after_part job s p).state = et ∙ ap (λ (v : World). v.state) ea in
-      let ef : q.facts ≡ (after_part job s p).facts = ap (λ (v : World). v.facts) ea in
-      let e1 = er ∙ ap (λ x. state_after job x ps) es in
-      let e2 = eq ∙ ap (λ x. parts_after job x ps) es in
-      (e1, λ i. record { facts = ef i; lines = el i } ∷ e2 i)
-
 -- what a closed run of pieces came to
 module _ (job : Job) (p q : Part) (ps qs : List Part) (s₀ s₁ s₂ : State) (v : Verdict)
     (e₀ : s₀ ≡ opened_state job) (e₁ : s₁ ≡ state_after job s₀ (p ∷ ps)) (eq : ◌≡◌ {A = List Part} (q ∷ qs) (parts_after job s₀ (p ∷ ps)))
@@ -70,17 +46,16 @@ module _ (job : Job) (p q : Part) (ps qs : List Part) (s₀ s₁ s₂ : State) (
   abbrev last : World
   last = record { state = s₂; facts = last_facts q.facts qs }
 
-  pub state-is : s₂ ≡ state_after job (opened_state job) (p ∷ ps)
+  state-is : s₂ ≡ state_after job (opened_state job) (p ∷ ps)
   state-is = e₂ ∙ (e₁ ∙ ap (λ s. state_after job s (p ∷ ps)) e₀)
 
-  pub parts_are : ◌≡◌ {A = List Part} (q ∷ qs) (parts_after job (opened_state job) (p ∷ ps))
+  parts_are : ◌≡◌ {A = List Part} (q ∷ qs) (parts_after job (opened_state job) (p ∷ ps))
   parts_are = eq ∙ ap (λ s. parts_after job s (p ∷ ps)) e₀
 
   last-is : last ≡ last_world job (opened job p.facts) (p ∷ ps)
-  unfolding last_facts
   last-is = λ i. record { state = state-is i; facts = last_facts p.facts (parts_are i) }
 
-  pub verdict_is : v ≡ verdict_of job last
+  verdict_is : v ≡ verdict_of job last
   verdict_is = ev ∙ ap (λ s. verdict_of job (record { state = s; facts = last_facts q.facts qs })) (sym e₂)
 
   pub is_uncut : Joined job (opened job p.facts) (p ∷ ps) → Uncut job (opened job p.facts) (p ∷ ps) (q ∷ qs) last v

@@ -22,12 +22,12 @@ abbrev pub after_part : Job → State → Part → World
 after_part job s p = after_calls job (taken_up s p) (calls_in p.lines)
 
 -- the session after each piece was run over its own register
-unfoldable pub state_after : Job → State → List Part → State
+abbrev pub state_after : Job → State → List Part → State
 state_after job s [] = s
 state_after job s (p ∷ ps) = state_after job (after_part job s p).state ps
 
 -- the pieces afterwards: what their registers mean, and their calls with the answers
-unfoldable pub parts_after : Job → State → List Part → List Part
+abbrev pub parts_after : Job → State → List Part → List Part
 parts_after job s [] = []
 parts_after job s (p ∷ ps) =
     record { facts = (after_part job s p).facts; lines = answered job (taken_up s p) p.lines }
@@ -43,7 +43,7 @@ all_lines [] = []
 all_lines (p ∷ ps) = p.lines ++ all_lines ps
 
 -- what the last register means
-unfoldable pub last_facts : Meaning → List Part → Meaning
+abbrev pub last_facts : Meaning → List Part → Meaning
 last_facts m [] = m
 last_facts m (p ∷ ps) = last_facts p.facts ps
 

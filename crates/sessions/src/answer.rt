@@ -1,8 +1,8 @@
 ghost use Rattle.std.specs.Prelude.{◌≡◌};
-ghost use Rattle.sessions.specs.Answers.{answer_to, after_call};
+ghost use Rattle.sessions.specs.Answers.{answer_to, after_call, answered, after_calls, calls_in};
 ghost use Rattle.sessions.specs.SessionView.{world};
 
-use crate::call::{Answer, Call};
+use crate::call::{Answer, Call, Line};
 use crate::session::Session;
 use goals::job::Job;
 use labels::workspace::Workspace;
@@ -23,5 +23,23 @@ pub fn answer<R: Register>(
     match call {
         Call::Step(step) => Answer::Stepped(session.step(workspace, job, register, step)),
         Call::Look => Answer::Seen(session.look(workspace, job, register)),
+    }
+}
+
+// Makes the calls in their order and writes each answer beside its call.
+pub fn answer_each<R: Register>(
+    session: &mut Session,
+    workspace: &mut Workspace,
+    job: &Job,
+    register: &mut R,
+    lines: &mut [Line],
+)
+    ensures lines { lines.new ≡ answered job.now (world session.old (R.Register.meaning register.old)) lines.old }
+    ensures after { world session.new (R.Register.meaning register.new)
+        ≡ after_calls job.now (world session.old (R.Register.meaning register.old)) (calls_in lines.old) }
+{
+    for line in lines.iter_mut() {
+        let answer = answer(session, workspace, job, register, line.call);
+        line.answer = Some(answer);
     }
 }

@@ -1,9 +1,11 @@
+ghost use Rattle.std.specs.Prelude.{◌≡◌, None};
+
 use crate::look::Look;
 use crate::refusal::{LookRefusal, StepRefusal};
 use crate::step::Step;
 
 // A call on a session, as a value.
-#[derive(Clone, Copy)]
+#[derive(Clone, Copy, PartialEq, Eq, Debug)]
 pub enum Call {
     Step(Step),
     Look,
@@ -21,4 +23,13 @@ pub enum Answer {
 pub struct Line {
     pub call: Call,
     pub answer: Option<Answer>,
+}
+
+// A call that was not made yet.
+impl From<Call> for Line {
+    ghost from_gives = { λ x y. y ≡ record { call = x; answer = None } };
+
+    fn from(call: Call) -> Line {
+        Line { call, answer: None }
+    }
 }

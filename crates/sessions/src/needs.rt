@@ -13,7 +13,7 @@ fn argument_fits(ids: u16, used: bool, argument: u16) -> bool
     if used { argument < ids } else { argument == 0 }
 }
 
-// Do the arguments suit an operation with so many parameters?
+// Do the arguments suit an operation with so many parameters? Field by field: a chain over the three is no shorter.
 pub fn arguments_fit(ids: u16, parameters: u8, arguments: Arguments) -> bool
     ensures { result ≡ arguments_fit ids parameters arguments }
 {
@@ -25,8 +25,7 @@ pub fn arguments_fit(ids: u16, parameters: u8, arguments: Arguments) -> bool
 fn need_holds<R: Register>(register: &R, arguments: Arguments, need: Entry) -> bool
     ensures { result ≡ need_holds (R.Register.meaning register.now) arguments need }
 {
-    let held = register.holds(fact_of(need, arguments));
-    if need.negated { !held } else { held }
+    register.holds(fact_of(need, arguments)) != need.negated
 }
 
 // The first need that does not hold, from 0.

@@ -5,7 +5,7 @@ ghost use Rattle.sessions.specs.Answers.{calls_in, after_calls, answered, verdic
 ghost use Rattle.sessions.specs.Pieces.{Part, state_after, parts_after, last_facts};
 ghost use Rattle.sessions.specs.SessionView.{session_state, closing_state, world};
 
-use crate::answer::answer;
+use crate::answer::answer_each;
 use crate::call::Line;
 use crate::session::{Closing, Session};
 use goals::job::Job;
@@ -50,15 +50,7 @@ impl<'a, R: Register> Work<'a, R> {
         ensures after { world session.new (R.Register.meaning self.new.register.now)
             ≡ after_calls job.now (world session.old (R.Register.meaning self.old.register.now)) (calls_in self.old.lines.items) }
     {
-        let count = self.lines.len();
-        for i in 0..count {
-            let call = self.lines[i].call;
-            let answer = answer(session, workspace, job, self.register, call);
-            self.lines[i] = Line {
-                call,
-                answer: Some(answer),
-            };
-        }
+        answer_each(session, workspace, job, self.register, &mut self.lines);
     }
 }
 
@@ -67,8 +59,7 @@ impl<'a, R: Register> Pieces for Work<'a, R> {
 
     ghost others = { λ p. [] };
 
-    fn run(&mut self, workspace: &mut Workspace, job: &Job, session: Session) -> Session {
-        let mut session = session;
+    fn run(&mut self, workspace: &mut Workspace, job: &Job, mut session: Session) -> Session {
         self.run_own(workspace, job, &mut session);
         session
     }
@@ -83,8 +74,7 @@ impl<'a, R: Register, Rest: Pieces> Pieces for Piece<'a, R, Rest> {
 
     ghost others = { λ p. Rest.Pieces.first p.rest ∷ Rest.Pieces.others p.rest };
 
-    fn run(&mut self, workspace: &mut Workspace, job: &Job, session: Session) -> Session {
-        let mut session = session;
+    fn run(&mut self, workspace: &mut Workspace, job: &Job, mut session: Session) -> Session {
         self.work.run_own(workspace, job, &mut session);
         let note = session.lay_aside();
         let session = note.take_up();

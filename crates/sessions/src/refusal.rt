@@ -1,8 +1,10 @@
 ghost use Rattle.std.specs.Prelude.{◌≡◌};
 ghost use Rattle.sessions.specs.Refusals.{step_number, look_number};
 
+use labels::refusal::LabelRefusal;
+
 // Why a step was refused.
-#[derive(Clone, Copy)]
+#[derive(Clone, Copy, PartialEq, Eq, Debug)]
 pub enum StepRefusal {
     // A pending part names a node that the job lacks, or an id that is too high.
     OtherJob,
@@ -19,6 +21,7 @@ pub enum StepRefusal {
 }
 
 impl StepRefusal {
+    // By a match: `as` takes no enum with a variant that holds something, and a `From` for `u8` would name no number.
     pub fn number(self) -> u8
         ensures { result ≡ step_number self }
     {
@@ -35,18 +38,41 @@ impl StepRefusal {
     }
 }
 
+impl From<LabelRefusal> for StepRefusal {
+    ghost use Rattle.sessions.specs.SessionView.{step_refusal_of};
+
+    ghost from_gives = { λ x y. y ≡ step_refusal_of x };
+
+    fn from(refusal: LabelRefusal) -> StepRefusal {
+        match refusal {
+            LabelRefusal::OtherJob => StepRefusal::OtherJob,
+            LabelRefusal::TooMuchWork => StepRefusal::TooMuchWork,
+            LabelRefusal::TooLong => StepRefusal::TooLong,
+        }
+    }
+}
+
 // Why a look was refused.
-#[derive(Clone, Copy)]
+#[derive(Clone, Copy, PartialEq, Eq, Debug)]
 pub enum LookRefusal {
-    OtherJob,
+    OtherJob = 10,
 }
 
 impl LookRefusal {
     pub fn number(self) -> u8
         ensures { result ≡ look_number self }
     {
-        match self {
-            LookRefusal::OtherJob => 10,
-        }
+        self as u8
+    }
+}
+
+// A label refuses to be judged only where the job does not know it.
+impl From<LabelRefusal> for LookRefusal {
+    ghost use Rattle.sessions.specs.declared.refusal.LookRefusal.TheVariants.{OtherJob};
+
+    ghost from_gives = { λ _ y. y ≡ OtherJob };
+
+    fn from(_refusal: LabelRefusal) -> LookRefusal {
+        LookRefusal::OtherJob
     }
 }

@@ -4,7 +4,8 @@ use crate::verdict::Verdict;
 use goals::time::Hour;
 use labels::label::Label;
 
-// A session that is open: nothing lets it go but laying aside and closing.
+// A session that is open: nothing lets it go but laying aside and closing. Workspace, job and register are passed beside it
+// one by one: they are parameters of its public calls, a look only reads the register, and a piece keeps its own.
 pub struct Session {
     number: u16,
     hour: Hour,

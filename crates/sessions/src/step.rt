@@ -2,7 +2,7 @@ ghost use Rattle.std.specs.Prelude.{◌≡◌};
 ghost use Rattle.sessions.specs.Steps.{argument};
 
 // The three arguments of a step, 0 where unused.
-#[derive(Clone, Copy)]
+#[derive(Clone, Copy, PartialEq, Eq, Debug)]
 pub struct Arguments {
     pub first: u16,
     pub second: u16,
@@ -10,7 +10,7 @@ pub struct Arguments {
 }
 
 // An operation by its number, with its arguments.
-#[derive(Clone, Copy)]
+#[derive(Clone, Copy, PartialEq, Eq, Debug)]
 pub struct Step {
     pub operation: u8,
     pub arguments: Arguments,
@@ -21,11 +21,7 @@ impl Arguments {
     pub fn get(self, parameter: u8) -> u16
         ensures { result ≡ argument self parameter }
     {
-        match parameter {
-            0 => self.first,
-            1 => self.second,
-            2 => self.third,
-            _ => 0,
-        }
+        let arguments = [self.first, self.second, self.third];
+        arguments.get(usize::from(parameter)).copied().unwrap_or(0)
     }
 }

@@ -1,5 +1,5 @@
 // What closing tells of the model of the steps taken.
-#[derive(Clone, Copy)]
+#[derive(Clone, Copy, PartialEq, Eq, Debug)]
 pub enum Judgement {
     Kept,
     NotKept,
@@ -8,7 +8,7 @@ pub enum Judgement {
 }
 
 // What is left of a session that was closed, with the first step whose label was FALSE.
-#[derive(Drop)]
+#[derive(Clone, Copy, PartialEq, Eq, Debug)]
 pub struct Verdict {
     pub judgement: Judgement,
     pub broken: Option<u16>,

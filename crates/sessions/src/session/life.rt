@@ -38,17 +38,15 @@ impl Session {
     ) -> Result<Look, LookRefusal>
         ensures { result ≡ look_answer job.now (world self.now (R.Register.meaning register.now)) }
     {
-        match self.label.idles(workspace, job, register) {
-            Err(_) => Err(LookRefusal::OtherJob),
-            Ok(idles) => Ok(Look {
-                number: self.number,
-                hour: self.hour,
-                size: self.label.size(),
-                truth: self.label.state(),
-                idles,
-                broken: self.broken,
-            }),
-        }
+        let idles = self.label.idles(workspace, job, register)?;
+        Ok(Look {
+            number: self.number,
+            hour: self.hour,
+            size: self.label.size(),
+            truth: self.label.state(),
+            idles,
+            broken: self.broken,
+        })
     }
 
     pub fn lay_aside(self) -> Note
@@ -81,13 +79,7 @@ impl Session {
     pub fn close<R: Register>(self, workspace: &mut Workspace, job: &Job, register: &R) -> Verdict
         ensures { result ≡ verdict_of job.now (world self (R.Register.meaning register.now)) }
     {
-        let Closing {
-            number: _,
-            hour: _,
-            label: _,
-            verdict,
-        } = self.finish(workspace, job, register);
-        verdict
+        self.finish(workspace, job, register).verdict
     }
 }
 
@@ -110,13 +102,8 @@ fn judge<R: Register>(
     ensures { result ≡ judgement_by job.now (R.Register.meaning register.now) (label_of label.now) }
 {
     match label.idles(workspace, job, register) {
+        Ok(true) => Judgement::Kept,
+        Ok(false) => Judgement::NotKept,
         Err(_) => Judgement::OtherJob,
-        Ok(keeps) => {
-            if keeps {
-                Judgement::Kept
-            } else {
-                Judgement::NotKept
-            }
-        }
     }
 }

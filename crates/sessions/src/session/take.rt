@@ -1,9 +1,9 @@
 ghost use Rattle.std.specs.Prelude.{◌≡◌, ◌<◌, ◌≤◌};
 ghost use Rattle.registers.specs.Meaning.{Meaning};
 ghost use Rattle.labels.specs.LabelCalls.{label_of};
-ghost use Rattle.sessions.specs.State.{World, broken_by, step_on};
+ghost use Rattle.sessions.specs.State.{World, step_on};
 ghost use Rattle.sessions.specs.Answers.{checked_at, step_answer, step_after};
-ghost use Rattle.sessions.specs.SessionView.{session_state, world, step_refusal_of};
+ghost use Rattle.sessions.specs.SessionView.{session_state, world};
 
 use crate::change::apply;
 use crate::refusal::StepRefusal;
@@ -11,36 +11,9 @@ use crate::session::Session;
 use crate::step::Step;
 use goals::job::Job;
 use goals::time::{Hour, Span};
-use labels::refusal::LabelRefusal;
 use labels::state::LabelState;
 use labels::workspace::Workspace;
 use registers::register::Register;
-
-impl From<LabelRefusal> for StepRefusal {
-    ghost from_gives = { λ x y. y ≡ step_refusal_of x };
-
-    fn from(refusal: LabelRefusal) -> StepRefusal {
-        match refusal {
-            LabelRefusal::OtherJob => StepRefusal::OtherJob,
-            LabelRefusal::TooMuchWork => StepRefusal::TooMuchWork,
-            LabelRefusal::TooLong => StepRefusal::TooLong,
-        }
-    }
-}
-
-// The first step whose label is FALSE stays the broken one.
-fn broken_after(broken: Option<u16>, number: u16, state: LabelState) -> Option<u16>
-    ensures { result ≡ broken_by broken number state }
-{
-    match broken {
-        Some(first) => Some(first),
-        None => match state {
-            LabelState::False => Some(number),
-            LabelState::True => None,
-            LabelState::Open => None,
-        },
-    }
-}
 
 impl Session {
     // Counts a step of the span, which led to the label.
@@ -51,10 +24,11 @@ impl Session {
     {
         let number = self.number + 1;
         let hours = self.hour.hours + u32::from(span.hours);
-        let broken = broken_after(self.broken, number, self.label.state());
+        let is_false = matches!(self.label.state(), LabelState::False);
         self.number = number;
         self.hour = Hour { hours };
-        self.broken = broken;
+        // The first step whose label is FALSE stays the broken one.
+        self.broken = self.broken.or(is_false.then_some(number));
     }
 
     // Takes a step, or refuses it and changes nothing: the label progresses by the facts before it, then the facts lose its

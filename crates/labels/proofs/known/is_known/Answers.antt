@@ -1,5 +1,5 @@
 use Rattle.std.proofs.Common.{ℕ, ◌<◌, ◌&&◌, ltb, List, length, get_or, vec_items, sym, ap, ◌∙◌, ap₂, arith}
-use Rattle.goals.specs.JobView.{ids_of, nodes_of, sound}
+use Rattle.goals.specs.JobView.{ids_of, nodes_of}
 use Rattle.labels.specs.declared.part.Part.{Part}
 use Rattle.labels.specs.declared.part.Part.TheVariants.{True}
 use Rattle.labels.specs.Known.{ids_below, known_part}
@@ -16,9 +16,9 @@ returns-then-not-is_known_part c =
     let N : ℕ = ids_of c.args.job.now in
     let kl : c.loop-k.k < length t = omega (arith, c.len-k-end.ensures, c.loop-k-test.true) in
     one_fails (λ k b e. ltb k n && ids_below N b) t l.table.order l.root c.loop-k.k kl l.only
-      (ap (known_part n N) (sym c.part.ensures)
-      ∙ (ap₂ (λ x y. known_part x y c.part.result) (sym c.node_count-nodes.ensures) (sym c.ids-ids.ensures)
-      ∙ (sym c.is_known_part.ensures ∙ c.if-not-is_known_part.true)))
+    (ap (known_part n N) (sym c.part.ensures)
+    ∙ (ap₂ (λ x y. known_part x y c.part.result) (sym c.node_count-nodes.ensures) (sym c.ids-ids.ensures)
+    ∙ (sym c.is_known_part.ensures ∙ c.if-not-is_known_part.true)))
 
 pub returns : goal.returns
 unfolding label_of known_to
@@ -28,6 +28,6 @@ returns c =
     let n : ℕ = length (nodes_of c.args.job.now) in
     let N : ℕ = ids_of c.args.job.now in
     sym (all_pass (λ k b e. ltb k n && ids_below N b) t l.table.order
-      (λ k kl. ap₂ (λ x y. known_part x y (get_or t k True)) (sym c.node_count-nodes.ensures) (sym c.ids-ids.ensures)
-      ∙ c.loop-k.invariant k (omega (arith, c.len-k-end.ensures)))
-      l.root l.inside)
+    (λ k kl. ap₂ (λ x y. known_part x y (get_or t k True)) (sym c.node_count-nodes.ensures) (sym c.ids-ids.ensures)
+    ∙ c.loop-k.invariant k (omega (arith, c.len-k-end.ensures)))
+    l.root l.inside)

@@ -1,11 +1,13 @@
-use Rattle.std.proofs.Common.{◌≡◌, ◌+◌, ◌-◌, ◌*◌, ◌≤◌, ◌++◌, vec_items, vec_len, vec_capacity}
-use Rattle.reports.specs.FileSteps.{steps_from, step_lines, report_lines}
+use Rattle.std.proofs.Common.{◌≡◌, ◌+◌, ◌*◌, ◌≤◌, ◌++◌, map, drop, vec_items, vec_len, vec_capacity}
+use Rattle.reports.specs.FileSteps.{step_lines, report_lines}
+use Rattle.reports.proofs.Adding.{step_of}
 use Rattle.reports.proofs.calls.add_calls.Given as goal
 
 -- the steps left complete the calls
-abbrev pub invariant-loop-k : goal.invariant-loop-k
-invariant-loop-k l =
-    (report_lines (steps_from l.file l.frame.steps l.frame.steps_at)
-    ≡ vec_items l.lines ++ step_lines (steps_from l.file (l.frame.steps - l.k) (l.frame.steps_at + 4 * l.k)))
-    × (vec_len l.lines ≡ 1 + 2 * l.k)
-    × (20001 ≤ vec_capacity l.lines)
+abbrev pub invariant-loop-bytes : goal.invariant-loop-bytes
+invariant-loop-bytes l =
+    record {
+      calls : report_lines (map step_of l.steps) ≡ vec_items l.lines ++ step_lines (map step_of (drop l.bytes-index l.steps));
+      count : vec_len l.lines ≡ 1 + 2 * l.bytes-index;
+      room : 20001 ≤ vec_capacity l.lines;
+    }

@@ -1,6 +1,6 @@
-use Rattle.std.proofs.Common.{Ok, Err, vec_items, ap, ◌∙◌, arith}
-use Rattle.goals.specs.FaultNumbers.{fill_number}
-use Rattle.reports.proofs.Telling.{refusal_written}
+use Rattle.std.proofs.Common.{◌++◌, Ok, Err, ap, ◌∙◌}
+use Rattle.reports.specs.declared.ending.Ending.TheVariants.{Refused}
+use Rattle.reports.specs.Lines.{ending_line}
 use Rattle.reports.proofs.report.report.Goals as goal
 use Rattle.reports.proofs.report.report.Goals.{in-Ok, in-Err}
 
@@ -12,7 +12,7 @@ returns g c =
             outcome = Ok w.in-Ok.job;
             filled = g.R.Register.meaning c.fill.new.register;
             reading = w.in-Ok.ensures;
-            written = ap vec_items w.text-is ∙ w.report_steps.ensures.text;
+            written = c.into_bytes.ensures ∙ (w.text-is ∙ w.report_steps.ensures.text);
             tells = w.report_steps.ensures.tells;
           }
       | in-Err w ↦
@@ -21,9 +21,10 @@ returns g c =
             filled = g.R.Register.meaning c.fill.new.register;
             reading = w.in-Err.ensures;
             written =
-                ap vec_items w.text-is
-                ∙ refusal_written w.number.result (fill_number w.in-Err.fault) (vec_items c.args.room.text) _
-                (omega (arith, c.args.room.text.ok.0, c.args.room.blank)) w.number.ensures w.write_ending.ensures;
+                c.into_bytes.ensures
+                ∙ (w.text-is
+                ∙ (w.push_ending.ensures
+                ∙ (ap (λ t. t ++ ending_line (Refused w.into.result)) c.args.room.blank ∙ ap (λ r. ending_line (Refused r)) w.into.ensures)));
             tells = tt;
           }
     ]

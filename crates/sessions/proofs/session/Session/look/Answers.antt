@@ -1,12 +1,13 @@
-use Rattle.sessions.specs.SessionView.{world}
-use Rattle.sessions.proofs.Checking.{look_told, look_refused}
+use Rattle.std.proofs.Common.{arith}
+use Rattle.std.proofs.lemmas.Grind.{common_steps}
+use Rattle.labels.specs.LabelCalls.{idling_answer}
+use Rattle.sessions.specs.Answers.{idles_by}
 use Rattle.sessions.proofs.session.Session.look.Goals as goal
 
-pub returns-in-Err : goal.returns-in-Err
-returns-in-Err g c =
-    look_refused c.args.job.now (world c.args.self.now (g.R.Register.meaning c.args.register.now)) _ c.in-Err.ensures.answer
+pub returns-in_err-idles : goal.returns-in_err-idles
+unfolding idling_answer idles_by
+returns-in_err-idles g c = grind (arith, common_steps)
 
-pub returns-in-Ok : goal.returns-in-Ok
-returns-in-Ok g c =
-    look_told c.args.job.now (world c.args.self.now (g.R.Register.meaning c.args.register.now))
-    c.size.result c.state.result c.in-Ok.idles c.size.ensures c.state.ensures c.in-Ok.ensures.answer
+pub returns : goal.returns
+unfolding idling_answer idles_by
+returns g c = grind (arith, common_steps)

@@ -1,18 +1,17 @@
-use Rattle.std.proofs.Common.{cond, sym, ap, ◌∙◌}
-use Rattle.labels.specs.LabelCalls.{label_of}
-use Rattle.sessions.specs.declared.verdict.Judgement.TheVariants.{Kept, NotKept}
-use Rattle.sessions.proofs.Checking.{judges_as, judges_other}
+use Rattle.std.proofs.Common.{arith}
+use Rattle.std.proofs.lemmas.Grind.{common_steps}
+use Rattle.labels.specs.LabelCalls.{idling_answer}
+use Rattle.sessions.specs.Answers.{idles_by}
 use Rattle.sessions.proofs.session.life.judge.Goals as goal
 
 pub returns-in-Err : goal.returns-in-Err
-returns-in-Err g c = judges_other c.args.job.now (g.R.Register.meaning c.args.register.now) (label_of c.args.label.now) _ c.in-Err.ensures.answer
+unfolding idling_answer idles_by
+returns-in-Err g c = grind (arith, common_steps, c.in-Err.ensures.answer)
 
-pub returns-then-keeps : goal.returns-then-keeps
-returns-then-keeps g c =
-    sym (ap (λ b. cond b Kept NotKept) c.if-keeps.true)
-    ∙ judges_as c.args.job.now (g.R.Register.meaning c.args.register.now) (label_of c.args.label.now) c.in-Ok.keeps c.in-Ok.ensures.answer
+pub returns-in-Ok-true : goal.returns-in-Ok-true
+unfolding idling_answer idles_by
+returns-in-Ok-true g c = grind (arith, common_steps)
 
-pub returns-else-keeps : goal.returns-else-keeps
-returns-else-keeps g c =
-    sym (ap (λ b. cond b Kept NotKept) c.if-keeps.false)
-    ∙ judges_as c.args.job.now (g.R.Register.meaning c.args.register.now) (label_of c.args.label.now) c.in-Ok.keeps c.in-Ok.ensures.answer
+pub returns-in-Ok-false : goal.returns-in-Ok-false
+unfolding idling_answer idles_by
+returns-in-Ok-false g c = grind (arith, common_steps)

@@ -13,7 +13,8 @@ fn argument_fits(ids: u16, used: bool, argument: u16) -> bool
     if used { argument < ids } else { argument == 0 }
 }
 
-// Do the arguments suit an operation with so many parameters? Field by field: a chain over the three is no shorter.
+// Do the arguments suit an operation with so many parameters? Field by field: a chain over the three is no plainer, and
+// its proof did not close.
 pub fn arguments_fit(ids: u16, parameters: u8, arguments: Arguments) -> bool
     ensures { result ≡ arguments_fit ids parameters arguments }
 {

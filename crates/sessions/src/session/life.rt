@@ -60,6 +60,7 @@ impl Session {
         ensures state { closing_state result ≡ session_state self }
         ensures verdict { result.verdict ≡ verdict_of job.now (world self (R.Register.meaning register.now)) }
     {
+        // Every field is named, since a session may not be dropped.
         let Session {
             number,
             hour,

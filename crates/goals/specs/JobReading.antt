@@ -43,7 +43,7 @@ FaultOfFile file (BadFrame e) = Err e ≡ framed file
 FaultOfFile file (BadJob e goal_start) = (f : Frame) × (Ok f ≡ framed file) × (goal_start ≡ f.goal_at) × FramedFault file f e
 
 abbrev pub BothSays : List ℕ → Result FramedJob FileFault → Type 0
-BothSays file (Ok b) = (Ok b.frame ≡ framed file) × JobRead file b.frame b.job
+BothSays file (Ok b) = (b.file.bytes.now ≡ file) × (Ok b.file.frame ≡ framed file) × JobRead file b.file.frame b.job
 BothSays file (Err e) = FaultOfFile file e
 
 abbrev pub JobSays : List ℕ → Result code.Job FileFault → Type 0

@@ -33,6 +33,7 @@ pub(crate) struct FramedFile<'a> {
     pub bytes: &'a [u8],
     pub frame: Frame,
     ghost operations_near: { frame.operations_at ≤ 40000 },
+    ghost facts_near: { frame.facts_at ≤ 40000 },
     ghost goal_first: { frame.goal_at ≤ frame.steps_at },
     ghost goal_end: { frame.steps_at ≤ length bytes.now },
     ghost goal_long: { frame.steps_at ≡ frame.goal_at + frame.goal_length },

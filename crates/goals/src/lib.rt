@@ -5,7 +5,7 @@ mod bytes;
 pub mod catalogue;
 pub mod catalogue_fault;
 pub mod exact;
-pub mod facts;
+mod facts;
 pub mod file_fault;
 pub mod fill_fault;
 pub mod frame;

@@ -1,47 +1,40 @@
-ghost use Rattle.std.specs.Prelude.{◌≡◌, ◌≤◌};
-ghost use Rattle.goals.specs.Filling.{declared, all_declared, facts_answer, after_facts, id_fits};
+ghost use Rattle.std.specs.Prelude.{◌≡◌};
+ghost use Rattle.goals.specs.Filling.{declared, all_declared, facts_of, facts_answer, after_facts, id_fits};
 
 use crate::bytes::byte_at;
-use crate::facts::FileFacts;
-use crate::frame::{Frame, end_of_predicates};
+use crate::frame::{FramedFile, end_of_predicates};
 use registers::fact::Fact;
-use registers::fact_list::{FactList, facts};
+use registers::fact_list::facts;
 use registers::put_all::put_all;
 use registers::refusal::Refusal;
 use registers::register::Register;
 
 // Puts every fact of a framed file into a register, whatever it holds already, or none: refused with 8 for a fact out of
 // bounds, then with 9 if the register would pass its limit.
-pub(crate) fn put_facts<R: Register>(
-    register: &mut R,
-    file: &[u8],
-    frame: Frame,
-) -> Result<(), Refusal>
-    requires { frame.facts_at ≤ 40000 }
-    ensures answer { result ≡ facts_answer (R.Register.meaning register.old) file.now frame }
-    ensures after { R.Register.meaning register.new ≡ after_facts (R.Register.meaning register.old) file.now frame result }
+pub(crate) fn put_facts<R: Register>(register: &mut R, file: FramedFile<'_>) -> Result<(), Refusal>
+    ensures answer { result ≡ facts_answer (R.Register.meaning register.old) file.entry.bytes.now file.entry.frame }
+    ensures after { R.Register.meaning register.new ≡ after_facts (R.Register.meaning register.old) file.entry.bytes.now file.entry.frame result }
 {
-    let list = FileFacts::new(file, frame.facts_at, frame.facts);
-    if !all_declared(file, frame, &list) {
+    if !all_declared(file) {
         return Err(Refusal::OutOfBounds);
     }
-    put_all(register, &list)
+    put_all(register, &file)
 }
 
 // Does the file's catalogue allow every fact?
-fn all_declared<L: FactList>(file: &[u8], frame: Frame, list: &L) -> bool
-    ensures { result ≡ all_declared file.now frame (L.FactList.listed list.now) }
+fn all_declared(file: FramedFile<'_>) -> bool
+    ensures { result ≡ all_declared file.entry.bytes.now file.entry.frame (facts_of file.entry.bytes.now file.entry.frame) }
 {
-    facts(list).all(|fact| is_declared(file, frame, fact))
+    facts(&file).all(|fact| is_declared(file, fact))
 }
 
-fn is_declared(file: &[u8], frame: Frame, fact: Fact) -> bool
-    ensures { result ≡ declared file.now frame fact }
+fn is_declared(file: FramedFile<'_>, fact: Fact) -> bool
+    ensures { result ≡ declared file.entry.bytes.now file.entry.frame fact }
 {
-    let places = byte_at(file, end_of_predicates(file, fact.predicate));
-    fact.predicate < frame.predicates
-        && id_fits(places >= 1, frame.ids, fact.first)
-        && id_fits(places >= 2, frame.ids, fact.second)
+    let places = byte_at(file.bytes, end_of_predicates(file.bytes, fact.predicate));
+    fact.predicate < file.frame.predicates
+        && id_fits(places >= 1, file.frame.ids, fact.first)
+        && id_fits(places >= 2, file.frame.ids, fact.second)
 }
 
 fn id_fits(used: bool, ids: u8, id: u16) -> bool

@@ -2,7 +2,7 @@ ghost use Rattle.goals.specs.JobReading.{FramedSays, BothSays, JobSays, FillSays
 
 use crate::file_fault::FileFault;
 use crate::fill_fault::FillFault;
-use crate::frame::{Frame, FramedFile, read_frame};
+use crate::frame::{FramedFile, read_frame};
 use crate::job::{Job, JobRoom};
 use crate::job_fault::JobFault;
 use crate::put_facts::put_facts;
@@ -10,10 +10,10 @@ use crate::read_catalogue::read_catalogue;
 use crate::reader::read_goal;
 use registers::register::Register;
 
-// A job with the frame of the file that it was read from.
+// A job with the framed file that it was read from.
 #[derive(Drop)]
-pub(crate) struct FramedJob {
-    pub frame: Frame,
+pub(crate) struct FramedJob<'a> {
+    pub file: FramedFile<'a>,
     pub job: Job,
 }
 
@@ -33,13 +33,13 @@ fn job_of(file: FramedFile<'_>, room: JobRoom) -> Result<Job, JobFault>
     Ok(Job { catalogue, goal })
 }
 
-fn read_both(bytes: &[u8], room: JobRoom) -> Result<FramedJob, FileFault>
+fn read_both(bytes: &[u8], room: JobRoom) -> Result<FramedJob<'_>, FileFault>
     ensures { BothSays bytes.now result }
 {
     let frame = read_frame(bytes)?;
     let file = FramedFile { bytes, frame };
     let job = job_of(file, room).map_err(|fault| FileFault::Job(fault, frame.goal_at))?;
-    Ok(FramedJob { frame, job })
+    Ok(FramedJob { file, job })
 }
 
 // Reads the job of an edition file: refused with 18 or 19 for its frame, with 1 or 2 for its catalogue, with 3 to 7 for its goal.
@@ -54,7 +54,7 @@ pub fn read_job(file: &[u8], room: JobRoom) -> Result<Job, FileFault>
 pub fn fill<R: Register>(register: &mut R, file: &[u8], room: JobRoom) -> Result<Job, FillFault>
     ensures { FillSays (R.Register.meaning register.old) (R.Register.meaning register.new) file.now result }
 {
-    let FramedJob { frame, job } = read_both(file, room)?;
-    put_facts(register, file, frame)?;
+    let FramedJob { file, job } = read_both(file, room)?;
+    put_facts(register, file)?;
     Ok(job)
 }

@@ -4,7 +4,7 @@ ghost use Rattle.labels.specs.Facts.{bind, value as value_in};
 use goals::goal::{Term, Variable};
 
 // The ids of the outer and of the inner variable, 0 where none is bound.
-#[derive(Clone, Copy)]
+#[derive(Clone, Copy, PartialEq, Eq, Debug)]
 pub struct Binding {
     pub outer: u16,
     pub inner: u16,

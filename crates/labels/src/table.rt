@@ -4,7 +4,6 @@ ghost use Rattle.labels.specs.Chains.{Latest, Linked, HeadsIn, HeadsOf, FallsIn,
 ghost use Rattle.labels.specs.Table.{composed, label_at, before, InOrder, NoTwins};
 ghost use Rattle.labels.specs.Growth.{Added};
 
-use crate::compare::same_part;
 use crate::hash::{BUCKETS, hash};
 use crate::part::Part;
 use std::alloc::{AllocError, Global};
@@ -76,7 +75,7 @@ impl Table {
     {
         let mut at = self.heads[hash(part)];
         while at > 0 {
-            if same_part(self.items[at - 1], part) {
+            if self.items[at - 1] == part {
                 return at - 1;
             }
             at = self.next[at - 1];

@@ -1,7 +1,6 @@
-use Rattle.std.proofs.Common.{◌≡◌, ℕ, suc, ◌-◌, ◌<◌, ◌≤◌, List, length, get_or, vec_items, vec_len, sym, ap, ◌∙◌, subst, arith}
+use Rattle.std.proofs.Common.{rules, ◌≡◌, ℕ, suc, ◌-◌, ◌<◌, ◌≤◌, List, length, get_or, vec_items, vec_len, sym, ap, ◌∙◌, subst, arith}
 use native.Mathlib.Decide.{dec_lt}
 use Rattle.std.proofs.lemmas.List.{get_or_read}
-use Rattle.labels.proofs.Logic.{to_T, no_T}
 use Rattle.labels.specs.declared.part.Part.{Part}
 use Rattle.labels.specs.declared.part.Part.TheVariants.{True}
 use Rattle.labels.specs.Chains.{bucket}
@@ -31,18 +30,6 @@ index-requires c =
     let h = c.loop-at.invariant.1 (c.loop-at.at - 1) (omega arith) in
     omega (arith, h.0)
 
-pub returns-then-same_part : goal.returns-then-same_part
-returns-then-same_part c =
-    let t : List Part = vec_items c.args.self.now.items in
-    let h = c.loop-at.invariant.1 (c.loop-at.at - 1) (omega arith) in
-    let lt : c.loop-at.at - 1 < length t = h.0 in
-    let here = get_or_read t (c.loop-at.at - 1) c.index.result.now lt c.index.ensures True in
-    record {
-      within = omega arith;
-      there = λ _. sym here ∙ c.same_part.ensures.0 (to_T c.if-same_part.true);
-      none = λ le. absurd (omega arith);
-    }
-
 pub loop-at-smaller : goal.loop-at-smaller
 loop-at-smaller c =
     let t : List Part = vec_items c.args.self.now.items in
@@ -71,7 +58,7 @@ loop-at-preserved c =
     let seen = get_or_read t at c.index.result.now lt c.index.ensures True in
     let inv : (k : ℕ) → k < length t → get_or t k True ≡ c.args.part → suc k ≤ suc at = λ k kl e. let i = c.loop-at.invariant.0 k kl e in omega arith in
     let w = walk_on t ns c.args.part at c.args.self.now.linked inv lt h.1
-    (λ e. no_T c.if-same_part.false (c.same_part.ensures.1 (seen ∙ e))) in (
+    (λ e. search rules) in (
       (λ k kl e. subst (λ (n : ℕ). suc k ≤ n) (sym here) (w k kl e)),
       (λ k e. let f = c.args.self.now.earlier at k (lt, sym here ∙ e) in
           (omega arith, c.args.self.now.alongside at k (lt, sym here ∙ e) ∙ h.1)),

@@ -4,8 +4,10 @@ ghost use Rattle.labels.specs.Partwise.{moved as moved_by};
 ghost use Rattle.labels.specs.Marks.{marked, Marking};
 ghost use Rattle.labels.specs.TableView.{parts_in, label_in, Stands, Adds};
 
+use crate::label::LARGEST;
 use crate::part::Part;
 use crate::table::{Full, Table};
+use crate::workspace::MOST_WORK;
 
 // Takes all marks away.
 fn clear(marks: &mut Vec<bool>)
@@ -43,7 +45,7 @@ fn mark_own(part: Part, marks: &mut Vec<bool>)
 }
 
 // Marks the parts of the label at the root, from the root down.
-pub fn mark(source: &Table, root: usize, marks: &mut Vec<bool>)
+pub fn mark(source: &Table<MOST_WORK>, root: usize, marks: &mut Vec<bool>)
     requires within { Stands source.now root }
     requires room { length (parts_in source.now) ≤ vec_len marks.old }
     ensures len { vec_len marks.new ≡ vec_len marks.old }
@@ -85,17 +87,16 @@ fn moved(part: Part, to: &Vec<usize>) -> Part
 
 // Copies what is marked, which are the parts of the label at the root.
 pub fn copy(
-    source: &Table,
+    source: &Table<MOST_WORK>,
     root: usize,
     marks: &Vec<bool>,
     to: &mut Vec<usize>,
-    table: &mut Table,
+    table: &mut Table<LARGEST>,
 ) -> Result<usize, Full>
     requires within { Stands source.now root }
     requires marks { Marking (parts_in source.now) root 0 marks.now.items }
     requires wide { length (parts_in source.now) ≤ vec_len marks.now }
     requires room { length (parts_in source.now) ≤ vec_len to.old }
-    ensures limit { table.new.limit ≡ table.old.limit }
     ensures len { vec_len to.new ≡ vec_len to.old }
     ensures outcome { Adds table.old table.new (label_in source.now root) result }
 {

@@ -6,10 +6,12 @@ ghost use Rattle.labels.specs.TableView.{parts_in};
 ghost use Rattle.labels.specs.JobWalks.{node_of, Walks, WalksPart, WalksAll};
 
 use crate::binding::Binding;
+use crate::label::LARGEST;
 use crate::part::Part;
 use crate::read::node_ref_at;
 use crate::table::{Full, Table};
 use crate::walk::{Wait, node, until};
+use crate::workspace::MOST_WORK;
 use goals::goal::{Ends, Node};
 use goals::job::Job;
 use goals::time::Span;
@@ -17,7 +19,7 @@ use registers::register::Register;
 
 // The progress of a pending part.
 fn pending<R: Register>(
-    table: &mut Table,
+    table: &mut Table<MOST_WORK>,
     job: &Job,
     register: &R,
     span: Span,
@@ -25,8 +27,7 @@ fn pending<R: Register>(
     binding: Binding,
     ends: Ends,
 ) -> Result<usize, Full>
-    ensures limit { table.new.limit ≡ table.old.limit }
-    ensures outcome { Walks job.now (R.Register.meaning register.now) span table.old table.new (with_ends ends (node_of job.now number)) binding result }
+    ensures { Walks job.now (R.Register.meaning register.now) span table.old table.new (with_ends ends (node_of job.now number)) binding result }
 {
     match *node_ref_at(job, number) {
         Node::Until(_, hold, reach) => {
@@ -39,7 +40,7 @@ fn pending<R: Register>(
 
 // The progress of one part, from where the progress of its own parts stands.
 fn one_part<R: Register>(
-    table: &mut Table,
+    table: &mut Table<MOST_WORK>,
     job: &Job,
     register: &R,
     span: Span,
@@ -48,8 +49,7 @@ fn one_part<R: Register>(
 ) -> Result<usize, Full>
     requires read { before (length to.now.items) part ≡ true }
     requires early { before (length (parts_in table.old)) (moved to.now.items part) ≡ true }
-    ensures limit { table.new.limit ≡ table.old.limit }
-    ensures outcome { WalksPart job.now (R.Register.meaning register.now) span table.old table.new part to.now.items result }
+    ensures { WalksPart job.now (R.Register.meaning register.now) span table.old table.new part to.now.items result }
 {
     match part {
         Part::True => table.add(Part::True),
@@ -67,15 +67,14 @@ fn one_part<R: Register>(
 
 // The progress of every part of a table, each once and in its order; `to` tells where it stands.
 pub fn every_part<R: Register>(
-    table: &mut Table,
+    table: &mut Table<MOST_WORK>,
     job: &Job,
     register: &R,
     span: Span,
-    source: &Table,
+    source: &Table<LARGEST>,
     to: &mut Vec<usize>,
 ) -> Result<(), Full>
     requires { length (parts_in source.now) ≤ vec_len to.old }
-    ensures limit { table.new.limit ≡ table.old.limit }
     ensures len { vec_len to.new ≡ vec_len to.old }
     ensures outcome { WalksAll job.now (R.Register.meaning register.now) span table.old table.new source.now to.new.items result }
 {

@@ -10,7 +10,7 @@ use crate::part::Part;
 use crate::table::{Full, Table};
 
 // The simplified joinings of labels of a table, by their places.
-impl Table {
+impl<const LIMIT: usize> Table<LIMIT> {
     pub fn is_true(&self, place: usize) -> bool
         requires { Stands self.now place }
         ensures yes { result ≡ true → label_in self.now place ≡ true_label }
@@ -35,8 +35,7 @@ impl Table {
 
     // A truth, as TRUE or FALSE.
     pub fn settle(&mut self, truth: bool) -> Result<usize, Full>
-        ensures limit { self.new.limit ≡ self.old.limit }
-        ensures outcome { Adds self.old self.new (settled truth) result }
+        ensures { Adds self.old self.new (settled truth) result }
     {
         if truth {
             self.add(Part::True)
@@ -47,8 +46,7 @@ impl Table {
 
     pub fn negate(&mut self, place: usize) -> Result<usize, Full>
         requires { Stands self.old place }
-        ensures limit { self.new.limit ≡ self.old.limit }
-        ensures outcome { Adds self.old self.new (negated (label_in self.old place)) result }
+        ensures { Adds self.old self.new (negated (label_in self.old place)) result }
     {
         match self.part(place) {
             Part::True => self.add(Part::False),
@@ -61,8 +59,7 @@ impl Table {
     pub fn conjoin(&mut self, i: usize, j: usize) -> Result<usize, Full>
         requires left { Stands self.old i }
         requires right { Stands self.old j }
-        ensures limit { self.new.limit ≡ self.old.limit }
-        ensures outcome { Adds self.old self.new (conjoined (label_in self.old i) (label_in self.old j)) result }
+        ensures { Adds self.old self.new (conjoined (label_in self.old i) (label_in self.old j)) result }
     {
         if self.is_false(i) {
             return Ok(i);
@@ -85,8 +82,7 @@ impl Table {
     pub fn disjoin(&mut self, i: usize, j: usize) -> Result<usize, Full>
         requires left { Stands self.old i }
         requires right { Stands self.old j }
-        ensures limit { self.new.limit ≡ self.old.limit }
-        ensures outcome { Adds self.old self.new (disjoined (label_in self.old i) (label_in self.old j)) result }
+        ensures { Adds self.old self.new (disjoined (label_in self.old i) (label_in self.old j)) result }
     {
         if self.is_true(i) {
             return Ok(i);
@@ -109,8 +105,7 @@ impl Table {
     pub fn join(&mut self, by: Connective, i: usize, j: usize) -> Result<usize, Full>
         requires left { Stands self.old i }
         requires right { Stands self.old j }
-        ensures limit { self.new.limit ≡ self.old.limit }
-        ensures outcome { Adds self.old self.new (join_by by (label_in self.old i) (label_in self.old j)) result }
+        ensures { Adds self.old self.new (join_by by (label_in self.old i) (label_in self.old j)) result }
     {
         match by {
             Connective::And => self.conjoin(i, j),
@@ -120,8 +115,7 @@ impl Table {
 
     // The label from which a quantifier joins.
     pub fn start(&mut self, by: Connective) -> Result<usize, Full>
-        ensures limit { self.new.limit ≡ self.old.limit }
-        ensures outcome { Adds self.old self.new (start_of by) result }
+        ensures { Adds self.old self.new (start_of by) result }
     {
         match by {
             Connective::And => self.add(Part::True),

@@ -12,21 +12,19 @@ use std::alloc::{AllocError, Global};
 #[derive(Clone, Copy)]
 pub struct Full;
 
-// Distinct parts, each behind its own, up to a limit; parts are found by chains, one for each bucket of a hash.
+// At most LIMIT distinct parts, each behind its own; parts are found by chains, one for each bucket of a hash.
 #[derive(Drop)]
-pub struct Table {
+pub struct Table<const LIMIT: usize> {
     items: Vec<Part>,
     heads: Vec<usize>,
     next: Vec<usize>,
-    limit: usize,
-    ghost small: { limit ≤ 4096 },
-    ghost room: { limit ≤ vec_capacity items },
-    ghost few: { vec_len items ≤ limit },
+    ghost room: { LIMIT ≤ vec_capacity items },
+    ghost few: { vec_len items ≤ LIMIT },
     ghost order: { InOrder items.items },
     ghost twins: { NoTwins items.items },
     ghost buckets: { vec_len heads ≡ 1024 },
     ghost beside: { vec_len next ≡ vec_len items },
-    ghost spare: { limit ≤ vec_capacity next },
+    ghost spare: { LIMIT ≤ vec_capacity next },
     ghost latest: { Latest items.items heads.items },
     ghost linked: { Linked items.items next.items },
     ghost inside: { HeadsIn items.items heads.items },
@@ -35,21 +33,16 @@ pub struct Table {
     ghost alongside: { FallsOf items.items next.items },
 }
 
-impl Table {
-    // An empty table with room for so many parts.
-    pub fn new(heap: Global, limit: usize) -> Result<Table, AllocError>
-        requires { limit ≤ 4096 }
-        ensures { IfOk result (λ t. (t.items.items ≡ []) × (t.limit ≡ limit)) }
+impl<const LIMIT: usize> Table<LIMIT> {
+    // An empty table.
+    pub fn new(heap: Global) -> Result<Table<LIMIT>, AllocError>
+        requires { LIMIT ≤ 4096 }
+        ensures { IfOk result (λ t. t.items.items ≡ []) }
     {
-        let items = Vec::with_capacity(heap, limit)?;
+        let items = Vec::with_capacity(heap, LIMIT)?;
         let heads = vec![in heap; 0usize; BUCKETS]?;
-        let next = Vec::with_capacity(heap, limit)?;
-        Ok(Table {
-            items,
-            heads,
-            next,
-            limit,
-        })
+        let next = Vec::with_capacity(heap, LIMIT)?;
+        Ok(Table { items, heads, next })
     }
 
     // How many parts there are.
@@ -86,15 +79,14 @@ impl Table {
     // Finds the part or adds it, and tells where it stands.
     pub fn add(&mut self, part: Part) -> Result<usize, Full>
         requires { before (length self.old.items.items) part ≡ true }
-        ensures limit { self.new.limit ≡ self.old.limit }
-        ensures outcome { Added self.old.limit self.old.items.items self.new.items.items (composed (label_at self.old.items.items) part) result }
+        ensures { Added LIMIT self.old.items.items self.new.items.items (composed (label_at self.old.items.items) part) result }
     {
         let n = self.items.len();
         let at = self.find(part);
         if at < n {
             return Ok(at);
         }
-        if n >= self.limit {
+        if n >= LIMIT {
             return Err(Full);
         }
         let h = hash(part);
@@ -107,8 +99,7 @@ impl Table {
 
     // Empties the table.
     pub fn clear(&mut self)
-        ensures limit { self.new.limit ≡ self.old.limit }
-        ensures items { self.new.items.items ≡ [] }
+        ensures { self.new.items.items ≡ [] }
     {
         self.items.clear();
         self.next.clear();

@@ -10,6 +10,7 @@ use crate::interval::{ends_after, is_passed, own_ends};
 use crate::part::Part;
 use crate::read::{is_fact, node_at, node_ref_at};
 use crate::table::{Full, Table};
+use crate::workspace::MOST_WORK;
 use goals::goal::{Atom, Ends, Node, Variable};
 use goals::job::Job;
 use goals::time::Span;
@@ -84,9 +85,13 @@ impl Range {
 }
 
 // A goal node, pending with its own ends.
-pub fn waiting(table: &mut Table, job: &Job, number: usize, binding: Binding) -> Result<usize, Full>
-    ensures limit { table.new.limit ≡ table.old.limit }
-    ensures outcome { Adds table.old table.new (waiting_of (node_of job.now number) binding) result }
+pub fn waiting(
+    table: &mut Table<MOST_WORK>,
+    job: &Job,
+    number: usize,
+    binding: Binding,
+) -> Result<usize, Full>
+    ensures { Adds table.old table.new (waiting_of (node_of job.now number) binding) result }
 {
     let ends = own_ends(node_at(job, number));
     table.add(Part::Pending {
@@ -98,14 +103,13 @@ pub fn waiting(table: &mut Table, job: &Job, number: usize, binding: Binding) ->
 
 // What is left of an until after the span.
 pub fn rest(
-    table: &mut Table,
+    table: &mut Table<MOST_WORK>,
     span: Span,
     node: usize,
     binding: Binding,
     ends: Ends,
 ) -> Result<usize, Full>
-    ensures limit { table.new.limit ≡ table.old.limit }
-    ensures outcome { Adds table.old table.new (rest_of span.hours node binding ends) result }
+    ensures { Adds table.old table.new (rest_of span.hours node binding ends) result }
 {
     if is_passed(span, ends.upper) {
         return table.add(Part::False);
@@ -122,15 +126,14 @@ pub fn rest(
 // An arm is `Ok(..?)` and not the call alone: compiled, a `Result` that is passed on whole is copied slowly.
 #[cycle(joined_negated_node_quantified_until)]
 pub fn node<R: Register>(
-    table: &mut Table,
+    table: &mut Table<MOST_WORK>,
     job: &Job,
     register: &R,
     span: Span,
     number: usize,
     binding: Binding,
 ) -> Result<usize, Full>
-    ensures limit { table.new.limit ≡ table.old.limit }
-    ensures outcome { Walks job.now (R.Register.meaning register.now) span table.old table.new (node_of job.now number) binding result }
+    ensures { Walks job.now (R.Register.meaning register.now) span table.old table.new (node_of job.now number) binding result }
 {
     match *node_ref_at(job, number) {
         Node::True => Ok(table.settle(true)?),
@@ -164,15 +167,14 @@ pub fn node<R: Register>(
 // The progress of a node, negated.
 #[cycle(joined_negated_node_quantified_until)]
 fn negated<R: Register>(
-    table: &mut Table,
+    table: &mut Table<MOST_WORK>,
     job: &Job,
     register: &R,
     span: Span,
     number: usize,
     binding: Binding,
 ) -> Result<usize, Full>
-    ensures limit { table.new.limit ≡ table.old.limit }
-    ensures outcome { WalksNot job.now (R.Register.meaning register.now) span table.old table.new number binding result }
+    ensures { WalksNot job.now (R.Register.meaning register.now) span table.old table.new number binding result }
 {
     let p = node(table, job, register, span, number, binding)?;
     table.negate(p)
@@ -181,7 +183,7 @@ fn negated<R: Register>(
 // The progress of two parts, joined.
 #[cycle(joined_negated_node_quantified_until)]
 fn joined<R: Register>(
-    table: &mut Table,
+    table: &mut Table<MOST_WORK>,
     job: &Job,
     register: &R,
     span: Span,
@@ -190,8 +192,7 @@ fn joined<R: Register>(
 ) -> Result<usize, Full>
     requires left { pair.left < pair.node }
     requires right { pair.right < pair.node }
-    ensures limit { table.new.limit ≡ table.old.limit }
-    ensures outcome { WalksPair job.now (R.Register.meaning register.now) span table.old table.new pair binding result }
+    ensures { WalksPair job.now (R.Register.meaning register.now) span table.old table.new pair binding result }
 {
     let p = node(table, job, register, span, pair.left, binding)?;
     let q = node(table, job, register, span, pair.right, binding)?;
@@ -201,7 +202,7 @@ fn joined<R: Register>(
 // The progress of an until with any ends.
 #[cycle(joined_negated_node_quantified_until)]
 pub fn until<R: Register>(
-    table: &mut Table,
+    table: &mut Table<MOST_WORK>,
     job: &Job,
     register: &R,
     span: Span,
@@ -210,8 +211,7 @@ pub fn until<R: Register>(
 ) -> Result<usize, Full>
     requires hold { wait.hold < wait.node }
     requires reach { wait.reach < wait.node }
-    ensures limit { table.new.limit ≡ table.old.limit }
-    ensures outcome { Walks job.now (R.Register.meaning register.now) span table.old table.new (wait_of job.now wait) binding result }
+    ensures { Walks job.now (R.Register.meaning register.now) span table.old table.new (wait_of job.now wait) binding result }
 {
     let p = node(table, job, register, span, wait.hold, binding)?;
     let later = rest(table, span, wait.node, binding, wait.ends)?;
@@ -226,7 +226,7 @@ pub fn until<R: Register>(
 // The progress of a quantifier: the labels of the ids in its range, joined in rising order to the right of the start.
 #[cycle(joined_negated_node_quantified_until)]
 fn quantified<R: Register>(
-    table: &mut Table,
+    table: &mut Table<MOST_WORK>,
     job: &Job,
     register: &R,
     span: Span,
@@ -234,8 +234,7 @@ fn quantified<R: Register>(
     binding: Binding,
 ) -> Result<usize, Full>
     requires { range.body < range.node }
-    ensures limit { table.new.limit ≡ table.old.limit }
-    ensures outcome { WalksRange job.now (R.Register.meaning register.now) span table.old table.new range binding result }
+    ensures { WalksRange job.now (R.Register.meaning register.now) span table.old table.new range binding result }
 {
     let mut so_far = table.start(range.by)?;
     for id in 0..job.ids() {

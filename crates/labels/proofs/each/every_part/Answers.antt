@@ -1,4 +1,4 @@
-use Rattle.std.proofs.Common.{◌≡◌, ℕ, ◌<◌, ◌≤◌, List, length, vec_items, vec_len, sym, refl, ◌∙◌, subst, arith}
+use Rattle.std.proofs.Common.{◌≡◌, ℕ, ◌<◌, ◌≤◌, List, length, vec_items, vec_len, sym, refl, subst, arith}
 use Rattle.std.proofs.lemmas.Result.{err_from_is_err_and}
 use Rattle.goals.specs.declared.goal.Node.{Node}
 use Rattle.goals.specs.JobView.{ids_of, nodes_of}
@@ -7,7 +7,6 @@ use Rattle.labels.specs.Facts.{Facts}
 use Rattle.labels.specs.Held.{facts_of}
 use Rattle.labels.specs.Partwise.{ProgressedTo}
 use Rattle.labels.proofs.Parting.{parts_none, parts-over, parts_more, parts_all, all_stop}
-use Rattle.labels.proofs.Walking.{over-limit}
 use Rattle.labels.proofs.each.every_part.Goals as goal
 
 pub loop-k-init : goal.loop-k-init
@@ -18,7 +17,7 @@ loop-k-init g c =
     let nodes : List Node = nodes_of c.args.job.now in
     let t : List Part = vec_items c.args.source.now.items in
     let order = c.args.source.now.order in
-    (refl, refl, parts_none N S D nodes t order (vec_items c.args.table.now.items), λ j l. absurd (omega arith))
+    (refl, parts_none N S D nodes t order (vec_items c.args.table.now.items), λ j l. absurd (omega arith))
 
 pub returns-in_err-at : goal.returns-in_err-at
 returns-in_err-at g c =
@@ -33,15 +32,14 @@ returns-in_err-at g c =
     let to : List ℕ = vec_items c.loop-k.to in
     let v : vec_len c.loop-k.to ≡ length to = c.loop-k.to.ok.0 in
     let long : length t ≤ vec_len c.args.to.now = c.requires in
-    let kept : vec_len c.loop-k.to ≡ vec_len c.args.to.now = c.loop-k.invariant.1 in
+    let kept : vec_len c.loop-k.to ≡ vec_len c.args.to.now = c.loop-k.invariant.0 in
     let kl : k < length t = omega (arith, c.len-k-end.ensures, c.loop-k-test.true) in
     let pr = err_from_is_err_and c.from_residual.result c.from_residual.ensures.1 in
     record {
-      limit = c.one_part.ensures.limit ∙ c.loop-k.invariant.0;
       len = kept;
       outcome = all_stop N S D nodes t to (vec_items c.one_part.new.table.items) c.from_residual.result pr.0 pr.1
-          (parts-over N S D nodes t order to d k kl c.loop-k.invariant.3 c.part.result (sym c.part.ensures) c.loop-k.invariant.2
-          (over-limit c.loop-k.invariant.0 c.in_err-at.ensures.outcome));
+          (parts-over N S D nodes t order to d k kl c.loop-k.invariant.2 c.part.result (sym c.part.ensures) c.loop-k.invariant.1
+          c.in_err-at.ensures);
     }
 
 pub loop-k-preserved : goal.loop-k-preserved
@@ -57,11 +55,11 @@ loop-k-preserved g c =
     let to : List ℕ = vec_items c.loop-k.to in
     let v : vec_len c.loop-k.to ≡ length to = c.loop-k.to.ok.0 in
     let long : length t ≤ vec_len c.args.to.now = c.requires in
-    let kept : vec_len c.loop-k.to ≡ vec_len c.args.to.now = c.loop-k.invariant.1 in
+    let kept : vec_len c.loop-k.to ≡ vec_len c.args.to.now = c.loop-k.invariant.0 in
     let kl : k < length t = omega (arith, c.len-k-end.ensures, c.loop-k-test.true) in
-    let h = parts_more N S D nodes t order to d k kl c.loop-k.invariant.3 c.part.result (sym c.part.ensures) c.in_ok-at.at (omega arith)
-    c.loop-k.invariant.2 c.in_ok-at.ensures.outcome in
-    (c.one_part.ensures.limit ∙ c.loop-k.invariant.0, kept, h.0, h.1)
+    let h = parts_more N S D nodes t order to d k kl c.loop-k.invariant.2 c.part.result (sym c.part.ensures) c.in_ok-at.at (omega arith)
+    c.loop-k.invariant.1 c.in_ok-at.ensures in
+    (kept, h.0, h.1)
 
 pub returns : goal.returns
 returns g c =
@@ -73,10 +71,9 @@ returns g c =
     let order = c.args.source.now.order in
     let n : c.loop-k.k ≡ length t = omega (arith, c.len-k-end.ensures) in
     record {
-      limit = c.loop-k.invariant.0;
-      len = c.loop-k.invariant.1;
+      len = c.loop-k.invariant.0;
       outcome = record {
-        grew = parts_all N S D nodes t order c.loop-k.k n c.loop-k.invariant.2;
-        placed = subst (ProgressedTo N S D nodes t (vec_items c.loop-k.to) (vec_items c.loop-k.table.items)) n c.loop-k.invariant.3;
+        grew = parts_all N S D nodes t order c.loop-k.k n c.loop-k.invariant.1;
+        placed = subst (ProgressedTo N S D nodes t (vec_items c.loop-k.to) (vec_items c.loop-k.table.items)) n c.loop-k.invariant.2;
       };
     }

@@ -9,8 +9,7 @@ use Rattle.labels.proofs.each.every_part.Given as goal
 
 abbrev pub invariant-loop-k : goal.invariant-loop-k
 invariant-loop-k g l =
-    (l.table.limit ≡ l.initial.table.limit)
-    × (vec_len l.to ≡ vec_len l.initial.to)
+    (vec_len l.to ≡ vec_len l.initial.to)
     × Grew (vec_items l.initial.table.items) (vec_items l.table.items)
     (each_results (ids_of l.job) (facts_of (g.R.Register.meaning l.register)) l.span.hours (nodes_of l.job) (first_rows (vec_items l.source.items) l.k))
     × ProgressedTo (ids_of l.job) (facts_of (g.R.Register.meaning l.register)) l.span.hours (nodes_of l.job) (vec_items l.source.items) (vec_items l.to) (vec_items l.table.items) l.k

@@ -17,12 +17,9 @@ returns-in-Until g c =
     let nodes : List Node = nodes_of c.args.job.now in
     let k : ℕ = c.args.number in
     let tree = tree-read nodes k (Until c.in-Until.field-0 c.in-Until.hold c.in-Until.reach) c.node_ref_at.ensures.value c.node_ref_at.ensures.below c.in-Until.is in
-    record {
-      limit = c.until.ensures.limit;
-      outcome = at-goal N S c.args.span.hours c.args.table.now.limit (vec_items c.args.table.now.items) (vec_items c.until.new.table.items)
-          c.args.binding c.until.result (ap (with_ends c.args.ends) (sym tree))
-          (at_wait c.args.job.now (g.R.Register.meaning c.args.register.now) c.args.span c.args.table.now c.until.new.table c.args.binding c.until.result c.new-wait.ensures c.until.ensures.outcome);
-    }
+    at-goal N S c.args.span.hours 4096 (vec_items c.args.table.now.items) (vec_items c.until.new.table.items)
+    c.args.binding c.until.result (ap (with_ends c.args.ends) (sym tree))
+    (at_wait c.args.job.now (g.R.Register.meaning c.args.register.now) c.args.span c.args.table.now c.until.new.table c.args.binding c.until.result c.new-wait.ensures c.until.ensures)
 
 pub returns-in_default : goal.returns-in_default
 returns-in_default g c =
@@ -32,9 +29,6 @@ returns-in_default g c =
     let k : ℕ = c.args.number in
     let nd : Node = c.node_ref_at.result.now in
     let tree = tree_of nodes k nd (sym c.node_ref_at.ensures.value) c.node_ref_at.ensures.below in
-    record {
-      limit = c.node.ensures.limit;
-      outcome = at-goal N S c.args.span.hours c.args.table.now.limit (vec_items c.args.table.now.items) (vec_items c.node.new.table.items)
-          c.args.binding c.node.result
-          (tree ∙ (with_other (goal_of_node nodes) k nd c.args.ends c.in_default.not-Until ∙ ap (with_ends c.args.ends) (sym tree))) c.node.ensures.outcome;
-    }
+    at-goal N S c.args.span.hours 4096 (vec_items c.args.table.now.items) (vec_items c.node.new.table.items)
+    c.args.binding c.node.result
+    (tree ∙ (with_other (goal_of_node nodes) k nd c.args.ends c.in_default.not-Until ∙ ap (with_ends c.args.ends) (sym tree))) c.node.ensures

@@ -12,7 +12,6 @@ use Rattle.labels.specs.Growth.{Grew, Made, Over}
 use Rattle.labels.specs.Held.{facts_of}
 use Rattle.labels.specs.LabelCalls.{label_of}
 use Rattle.labels.proofs.Growing.{growth_tells-size, growth_tells-work}
-use Rattle.labels.proofs.Walking.{over-limit}
 use Rattle.labels.proofs.Labelled.{only_grown, only_subset}
 use Rattle.labels.proofs.progress.work_out.Goals as goal
 
@@ -27,8 +26,8 @@ returns-in-Err g c =
     let t : List Part = vec_items l.table.items in
     let old : List Part = vec_items c.clear.new.self.items in
     let W = growth_tells-work N S D nodes t l.root l.table.order l.inside (only_subset t l.root l.only) in
-    W.0 4096 (subst (λ (z : List Part). Over 4096 z (each_results N S D nodes (rows t))) c.clear.ensures.items
-    (over-limit (c.clear.ensures.limit ∙ c.args.workspace.now.wide) c.in-Err.ensures.outcome))
+    W.0 4096 (subst (λ (z : List Part). Over 4096 z (each_results N S D nodes (rows t))) c.clear.ensures
+    c.in-Err.ensures.outcome)
 
 pub mark-requires : goal.mark-requires
 mark-requires g c =
@@ -45,11 +44,9 @@ mark-requires g c =
     let v : vec_len c.every_part.new.table.items ≡ length u = c.every_part.new.table.items.ok.0 in
     let x : vec_len c.every_part.new.to ≡ length to = c.every_part.new.to.ok.0 in
     let y : vec_len l.table.items ≡ length t = l.table.items.ok.0 in
-    let few : vec_len c.every_part.new.table.items ≤ c.every_part.new.table.limit = c.every_part.new.table.few in
-    let limit : c.every_part.new.table.limit ≡ 4096 = c.every_part.ensures.limit ∙ (c.clear.ensures.limit ∙ c.args.workspace.now.wide) in
+    let few : vec_len c.every_part.new.table.items ≤ 4096 = c.every_part.new.table.few in
     let long : vec_len c.every_part.new.to ≡ 4096 = c.every_part.ensures.len ∙ c.args.workspace.now.long in
-    let small : vec_len l.table.items ≤ l.table.limit = l.table.few in
-    let roomy : l.table.limit ≡ 512 = l.roomy in
+    let small : vec_len l.table.items ≤ 512 = l.table.few in
     let inside : l.root < length t = l.inside in
     let top : c.index-top.result.now ≡ get_or to l.root 0 = get_or_read to l.root c.index-top.result.now (omega arith) c.index-top.ensures 0 in
     let st = h.placed l.root inside in
@@ -72,11 +69,9 @@ copy-requires g c =
     let v : vec_len c.every_part.new.table.items ≡ length u = c.every_part.new.table.items.ok.0 in
     let x : vec_len c.every_part.new.to ≡ length to = c.every_part.new.to.ok.0 in
     let y : vec_len l.table.items ≡ length t = l.table.items.ok.0 in
-    let few : vec_len c.every_part.new.table.items ≤ c.every_part.new.table.limit = c.every_part.new.table.few in
-    let limit : c.every_part.new.table.limit ≡ 4096 = c.every_part.ensures.limit ∙ (c.clear.ensures.limit ∙ c.args.workspace.now.wide) in
+    let few : vec_len c.every_part.new.table.items ≤ 4096 = c.every_part.new.table.few in
     let long : vec_len c.every_part.new.to ≡ 4096 = c.every_part.ensures.len ∙ c.args.workspace.now.long in
-    let small : vec_len l.table.items ≤ l.table.limit = l.table.few in
-    let roomy : l.table.limit ≡ 512 = l.roomy in
+    let small : vec_len l.table.items ≤ 512 = l.table.few in
     let inside : l.root < length t = l.inside in
     let top : c.index-top.result.now ≡ get_or to l.root 0 = get_or_read to l.root c.index-top.result.now (omega arith) c.index-top.ensures 0 in
     let st = h.placed l.root inside in
@@ -101,11 +96,9 @@ returns-in-Err-copy g c =
     let v : vec_len c.every_part.new.table.items ≡ length u = c.every_part.new.table.items.ok.0 in
     let x : vec_len c.every_part.new.to ≡ length to = c.every_part.new.to.ok.0 in
     let y : vec_len l.table.items ≡ length t = l.table.items.ok.0 in
-    let few : vec_len c.every_part.new.table.items ≤ c.every_part.new.table.limit = c.every_part.new.table.few in
-    let limit : c.every_part.new.table.limit ≡ 4096 = c.every_part.ensures.limit ∙ (c.clear.ensures.limit ∙ c.args.workspace.now.wide) in
+    let few : vec_len c.every_part.new.table.items ≤ 4096 = c.every_part.new.table.few in
     let long : vec_len c.every_part.new.to ≡ 4096 = c.every_part.ensures.len ∙ c.args.workspace.now.long in
-    let small : vec_len l.table.items ≤ l.table.limit = l.table.few in
-    let roomy : l.table.limit ≡ 512 = l.roomy in
+    let small : vec_len l.table.items ≤ 512 = l.table.few in
     let inside : l.root < length t = l.inside in
     let top : c.index-top.result.now ≡ get_or to l.root 0 = get_or_read to l.root c.index-top.result.now (omega arith) c.index-top.ensures 0 in
     let st = h.placed l.root inside in
@@ -114,12 +107,11 @@ returns-in-Err-copy g c =
     let q : Label = progressed N S D nodes (label_at t l.root) in
     let is : label_at u c.index-top.result.now ≡ q = ap (label_at u) top ∙ st.1 in
     let many : length u ≡ length (work N S D nodes (label_at t l.root)) = W.1 u c.every_part.new.table.order c.every_part.new.table.twins
-    (subst (λ (z : List Part). Grew z u (each_results N S D nodes (rows t))) c.clear.ensures.items h.grew) in
-    let d₀ : List Part = vec_items c.clear-2.new.self.items in
-    let full : c.clear-2.new.self.limit ≡ 512 = c.clear-2.ensures.limit ∙ c.args.workspace.now.roomy in (
+    (subst (λ (z : List Part). Grew z u (each_results N S D nodes (rows t))) c.clear.ensures h.grew) in
+    let d₀ : List Part = vec_items c.clear-2.new.self.items in (
       omega arith,
-      (growth_tells-size q).0 512 (subst (λ (z : List Part). Over 512 z (q ∷ [])) c.clear-2.ensures.items
-          (subst (λ (z : Label). Over 512 d₀ (z ∷ [])) is (over-limit full c.in-Err-copy.ensures.outcome))),
+      (growth_tells-size q).0 512 (subst (λ (z : List Part). Over 512 z (q ∷ [])) c.clear-2.ensures
+          (subst (λ (z : Label). Over 512 d₀ (z ∷ [])) is c.in-Err-copy.ensures.outcome)),
     )
 
 pub returns-in-Ok-copy : goal.returns-in-Ok-copy
@@ -138,11 +130,9 @@ returns-in-Ok-copy g c =
     let v : vec_len c.every_part.new.table.items ≡ length u = c.every_part.new.table.items.ok.0 in
     let x : vec_len c.every_part.new.to ≡ length to = c.every_part.new.to.ok.0 in
     let y : vec_len l.table.items ≡ length t = l.table.items.ok.0 in
-    let few : vec_len c.every_part.new.table.items ≤ c.every_part.new.table.limit = c.every_part.new.table.few in
-    let limit : c.every_part.new.table.limit ≡ 4096 = c.every_part.ensures.limit ∙ (c.clear.ensures.limit ∙ c.args.workspace.now.wide) in
+    let few : vec_len c.every_part.new.table.items ≤ 4096 = c.every_part.new.table.few in
     let long : vec_len c.every_part.new.to ≡ 4096 = c.every_part.ensures.len ∙ c.args.workspace.now.long in
-    let small : vec_len l.table.items ≤ l.table.limit = l.table.few in
-    let roomy : l.table.limit ≡ 512 = l.roomy in
+    let small : vec_len l.table.items ≤ 512 = l.table.few in
     let inside : l.root < length t = l.inside in
     let top : c.index-top.result.now ≡ get_or to l.root 0 = get_or_read to l.root c.index-top.result.now (omega arith) c.index-top.ensures 0 in
     let st = h.placed l.root inside in
@@ -151,16 +141,14 @@ returns-in-Ok-copy g c =
     let q : Label = progressed N S D nodes (label_at t l.root) in
     let is : label_at u c.index-top.result.now ≡ q = ap (label_at u) top ∙ st.1 in
     let many : length u ≡ length (work N S D nodes (label_at t l.root)) = W.1 u c.every_part.new.table.order c.every_part.new.table.twins
-    (subst (λ (z : List Part). Grew z u (each_results N S D nodes (rows t))) c.clear.ensures.items h.grew) in
+    (subst (λ (z : List Part). Grew z u (each_results N S D nodes (rows t))) c.clear.ensures h.grew) in
     let d₀ : List Part = vec_items c.clear-2.new.self.items in
-    let full : c.clear-2.new.self.limit ≡ 512 = c.clear-2.ensures.limit ∙ c.args.workspace.now.roomy in
     let new : List Part = vec_items c.copy.new.table.items in
     let i : ℕ = c.in-Ok-copy.root in
     let m : Made [] new q (q ∷ []) i =
-    subst (λ (z : List Part). Made z new q (q ∷ []) i) c.clear-2.ensures.items
+    subst (λ (z : List Part). Made z new q (q ∷ []) i) c.clear-2.ensures
     (subst (λ (z : Label). Made d₀ new z (z ∷ []) i) is c.in-Ok-copy.ensures.outcome) in
     let size_is = (growth_tells-size q).1 new c.copy.new.table.order c.copy.new.table.twins m.grew in
     let nv : vec_len c.copy.new.table.items ≡ length new = c.copy.new.table.items.ok.0 in
-    let nf : vec_len c.copy.new.table.items ≤ c.copy.new.table.limit = c.copy.new.table.few in
-    let nl : c.copy.new.table.limit ≡ 512 = c.copy.ensures.limit ∙ full in
+    let nf : vec_len c.copy.new.table.items ≤ 512 = c.copy.new.table.few in
     record { work_fits = omega arith; size_fits = omega arith; within = m.within; is = m.is; only = only_grown m }

@@ -1,4 +1,4 @@
-use Rattle.std.proofs.Common.{◌≡◌, ℕ, ◌+◌, ◌<◌, eqb, List, ◌∷◌, ◌++◌, Ok, vec_items, Result, sym, refl, ◌∙◌, subst, ap₂, arith}
+use Rattle.std.proofs.Common.{◌≡◌, ℕ, ◌+◌, ◌<◌, eqb, List, ◌∷◌, ◌++◌, Ok, vec_items, Result, sym, ◌∙◌, subst, ap₂, arith}
 use Rattle.std.proofs.lemmas.Result.{err_from_is_err_and}
 use Rattle.goals.specs.declared.goal.Node.{Node}
 use Rattle.goals.specs.declared.goal.Node.TheVariants.{True, Test, Equal, Not, And, Or, Next, Until, ForAll, Exists}
@@ -19,7 +19,7 @@ use Rattle.labels.specs.Walks.{joined_to, results_to}
 use Rattle.labels.proofs.Trees.{tree-read}
 use Rattle.labels.proofs.Shapes.{at_pair, at_wait, at-range}
 use Rattle.labels.proofs.Calls.{after-negate, after-join}
-use Rattle.labels.proofs.Walking.{at-limit, stop, left_over, right_over, at-goal, walk_top, walk-test, walk-equal, walk-next, walk-and, walk-or, walk-all, walk-exists, walk-not, not-over, hold_over, rest_over, both-over, waits, reach-over, reaches-it, begins, skips, item-over, join-over, joins, all_turns, start-over, turn_over}
+use Rattle.labels.proofs.Walking.{stop, left_over, right_over, at-goal, walk_top, walk-test, walk-equal, walk-next, walk-and, walk-or, walk-all, walk-exists, walk-not, not-over, hold_over, rest_over, both-over, waits, reach-over, reaches-it, begins, skips, item-over, join-over, joins, all_turns, start-over, turn_over}
 use Rattle.labels.proofs.walk.+joined_negated_node_quantified_until.Goals as goal
 use Rattle.labels.proofs.walk.+joined_negated_node_quantified_until.Goals.{quantified-then-is_fact+in_ok-p+in_ok-so_far-2, quantified-else-is_fact}
 
@@ -30,7 +30,6 @@ node-returns-in_err-settle-in-True g t c =
     let S : Facts = facts_of (g.R.Register.meaning c.args.register.now) in
     let D : ℕ = c.args.span.hours in
     let nodes : List Node = nodes_of c.args.job.now in
-    let L : ℕ = c.args.table.now.limit in
     let T0 : List Part = vec_items c.args.table.now.items in
     let k : ℕ = c.args.number in
     let B : Binding = c.args.binding in
@@ -38,12 +37,9 @@ node-returns-in_err-settle-in-True g t c =
     let u : List Part = vec_items c.settle.new.self.items in
     let r : Result ℕ Full = c.from_residual.result in
     let pr = err_from_is_err_and r c.from_residual.ensures.1 in
-    record {
-      limit = c.settle.ensures.limit;
-      outcome = at-goal N S D L T0 u B r (sym tree)
-          (walk_top N S D L T0 u k B r
-          (stop u _ _ r pr.0 pr.1 c.in_err-settle-in-True.ensures.outcome));
-    }
+    at-goal N S D 4096 T0 u B r (sym tree)
+    (walk_top N S D 4096 T0 u k B r
+    (stop u _ _ r pr.0 pr.1 c.in_err-settle-in-True.ensures))
 
 pub node-returns-in_ok-settle-in-True : goal.node-returns-in_ok-settle-in-True
 node-returns-in_ok-settle-in-True g t c =
@@ -51,19 +47,15 @@ node-returns-in_ok-settle-in-True g t c =
     let S : Facts = facts_of (g.R.Register.meaning c.args.register.now) in
     let D : ℕ = c.args.span.hours in
     let nodes : List Node = nodes_of c.args.job.now in
-    let L : ℕ = c.args.table.now.limit in
     let T0 : List Part = vec_items c.args.table.now.items in
     let k : ℕ = c.args.number in
     let B : Binding = c.args.binding in
     let tree = tree-read nodes k True c.node_ref_at.ensures.value c.node_ref_at.ensures.below c.in-True.is in
     let u : List Part = vec_items c.settle.new.self.items in
     let r : Result ℕ Full = Ok c.in_ok-settle-in-True.field-0 in
-    record {
-      limit = c.settle.ensures.limit;
-      outcome = at-goal N S D L T0 u B r (sym tree)
-          (walk_top N S D L T0 u k B r
-          c.in_ok-settle-in-True.ensures.outcome);
-    }
+    at-goal N S D 4096 T0 u B r (sym tree)
+    (walk_top N S D 4096 T0 u k B r
+    c.in_ok-settle-in-True.ensures)
 
 pub node-returns-in_err-settle-in-Test : goal.node-returns-in_err-settle-in-Test
 node-returns-in_err-settle-in-Test g t c =
@@ -71,7 +63,6 @@ node-returns-in_err-settle-in-Test g t c =
     let S : Facts = facts_of (g.R.Register.meaning c.args.register.now) in
     let D : ℕ = c.args.span.hours in
     let nodes : List Node = nodes_of c.args.job.now in
-    let L : ℕ = c.args.table.now.limit in
     let T0 : List Part = vec_items c.args.table.now.items in
     let k : ℕ = c.args.number in
     let B : Binding = c.args.binding in
@@ -79,12 +70,9 @@ node-returns-in_err-settle-in-Test g t c =
     let u : List Part = vec_items c.settle-in-Test.new.self.items in
     let r : Result ℕ Full = c.from_residual-in_err-settle-in-Test.result in
     let pr = err_from_is_err_and r c.from_residual-in_err-settle-in-Test.ensures.1 in
-    record {
-      limit = c.settle-in-Test.ensures.limit;
-      outcome = at-goal N S D L T0 u B r (sym tree)
-          (walk-test N S D L T0 u k B r c.in-Test.atom c.is_fact.result c.is_fact.ensures
-          (stop u _ _ r pr.0 pr.1 c.in_err-settle-in-Test.ensures.outcome));
-    }
+    at-goal N S D 4096 T0 u B r (sym tree)
+    (walk-test N S D 4096 T0 u k B r c.in-Test.atom c.is_fact.result c.is_fact.ensures
+    (stop u _ _ r pr.0 pr.1 c.in_err-settle-in-Test.ensures))
 
 pub node-returns-in_ok-settle-in-Test : goal.node-returns-in_ok-settle-in-Test
 node-returns-in_ok-settle-in-Test g t c =
@@ -92,19 +80,15 @@ node-returns-in_ok-settle-in-Test g t c =
     let S : Facts = facts_of (g.R.Register.meaning c.args.register.now) in
     let D : ℕ = c.args.span.hours in
     let nodes : List Node = nodes_of c.args.job.now in
-    let L : ℕ = c.args.table.now.limit in
     let T0 : List Part = vec_items c.args.table.now.items in
     let k : ℕ = c.args.number in
     let B : Binding = c.args.binding in
     let tree = tree-read nodes k (Test c.in-Test.atom) c.node_ref_at.ensures.value c.node_ref_at.ensures.below c.in-Test.is in
     let u : List Part = vec_items c.settle-in-Test.new.self.items in
     let r : Result ℕ Full = Ok c.in_ok-settle-in-Test.field-0 in
-    record {
-      limit = c.settle-in-Test.ensures.limit;
-      outcome = at-goal N S D L T0 u B r (sym tree)
-          (walk-test N S D L T0 u k B r c.in-Test.atom c.is_fact.result c.is_fact.ensures
-          c.in_ok-settle-in-Test.ensures.outcome);
-    }
+    at-goal N S D 4096 T0 u B r (sym tree)
+    (walk-test N S D 4096 T0 u k B r c.in-Test.atom c.is_fact.result c.is_fact.ensures
+    c.in_ok-settle-in-Test.ensures)
 
 pub node-returns-in_err-settle-in-Equal : goal.node-returns-in_err-settle-in-Equal
 node-returns-in_err-settle-in-Equal g t c =
@@ -112,7 +96,6 @@ node-returns-in_err-settle-in-Equal g t c =
     let S : Facts = facts_of (g.R.Register.meaning c.args.register.now) in
     let D : ℕ = c.args.span.hours in
     let nodes : List Node = nodes_of c.args.job.now in
-    let L : ℕ = c.args.table.now.limit in
     let T0 : List Part = vec_items c.args.table.now.items in
     let k : ℕ = c.args.number in
     let B : Binding = c.args.binding in
@@ -120,12 +103,9 @@ node-returns-in_err-settle-in-Equal g t c =
     let u : List Part = vec_items c.settle-in-Equal.new.self.items in
     let r : Result ℕ Full = c.from_residual-in_err-settle-in-Equal.result in
     let pr = err_from_is_err_and r c.from_residual-in_err-settle-in-Equal.ensures.1 in
-    record {
-      limit = c.settle-in-Equal.ensures.limit;
-      outcome = at-goal N S D L T0 u B r (sym tree)
-          (walk-equal N S D L T0 u k B r c.in-Equal.left c.in-Equal.right (eqb c.value.result c.value-in-Equal.result) (ap₂ eqb c.value.ensures c.value-in-Equal.ensures)
-          (stop u _ _ r pr.0 pr.1 c.in_err-settle-in-Equal.ensures.outcome));
-    }
+    at-goal N S D 4096 T0 u B r (sym tree)
+    (walk-equal N S D 4096 T0 u k B r c.in-Equal.left c.in-Equal.right (eqb c.value.result c.value-in-Equal.result) (ap₂ eqb c.value.ensures c.value-in-Equal.ensures)
+    (stop u _ _ r pr.0 pr.1 c.in_err-settle-in-Equal.ensures))
 
 pub node-returns-in_ok-settle-in-Equal : goal.node-returns-in_ok-settle-in-Equal
 node-returns-in_ok-settle-in-Equal g t c =
@@ -133,19 +113,15 @@ node-returns-in_ok-settle-in-Equal g t c =
     let S : Facts = facts_of (g.R.Register.meaning c.args.register.now) in
     let D : ℕ = c.args.span.hours in
     let nodes : List Node = nodes_of c.args.job.now in
-    let L : ℕ = c.args.table.now.limit in
     let T0 : List Part = vec_items c.args.table.now.items in
     let k : ℕ = c.args.number in
     let B : Binding = c.args.binding in
     let tree = tree-read nodes k (Equal c.in-Equal.left c.in-Equal.right) c.node_ref_at.ensures.value c.node_ref_at.ensures.below c.in-Equal.is in
     let u : List Part = vec_items c.settle-in-Equal.new.self.items in
     let r : Result ℕ Full = Ok c.in_ok-settle-in-Equal.field-0 in
-    record {
-      limit = c.settle-in-Equal.ensures.limit;
-      outcome = at-goal N S D L T0 u B r (sym tree)
-          (walk-equal N S D L T0 u k B r c.in-Equal.left c.in-Equal.right (eqb c.value.result c.value-in-Equal.result) (ap₂ eqb c.value.ensures c.value-in-Equal.ensures)
-          c.in_ok-settle-in-Equal.ensures.outcome);
-    }
+    at-goal N S D 4096 T0 u B r (sym tree)
+    (walk-equal N S D 4096 T0 u k B r c.in-Equal.left c.in-Equal.right (eqb c.value.result c.value-in-Equal.result) (ap₂ eqb c.value.ensures c.value-in-Equal.ensures)
+    c.in_ok-settle-in-Equal.ensures)
 
 pub node-returns-in_err-negated-in-Not : goal.node-returns-in_err-negated-in-Not
 node-returns-in_err-negated-in-Not g t c =
@@ -153,7 +129,6 @@ node-returns-in_err-negated-in-Not g t c =
     let S : Facts = facts_of (g.R.Register.meaning c.args.register.now) in
     let D : ℕ = c.args.span.hours in
     let nodes : List Node = nodes_of c.args.job.now in
-    let L : ℕ = c.args.table.now.limit in
     let T0 : List Part = vec_items c.args.table.now.items in
     let k : ℕ = c.args.number in
     let B : Binding = c.args.binding in
@@ -161,12 +136,9 @@ node-returns-in_err-negated-in-Not g t c =
     let u : List Part = vec_items c.negated.new.table.items in
     let r : Result ℕ Full = c.from_residual-in_err-negated-in-Not.result in
     let pr = err_from_is_err_and r c.from_residual-in_err-negated-in-Not.ensures.1 in
-    record {
-      limit = c.negated.ensures.limit;
-      outcome = at-goal N S D L T0 u B r (sym tree)
-          (walk-not N S D L T0 u k B r (goal_of_node nodes c.in-Not.x)
-          (stop u _ _ r pr.0 pr.1 c.in_err-negated-in-Not.ensures.outcome));
-    }
+    at-goal N S D 4096 T0 u B r (sym tree)
+    (walk-not N S D 4096 T0 u k B r (goal_of_node nodes c.in-Not.x)
+    (stop u _ _ r pr.0 pr.1 c.in_err-negated-in-Not.ensures))
 
 pub node-returns-in_ok-negated-in-Not : goal.node-returns-in_ok-negated-in-Not
 node-returns-in_ok-negated-in-Not g t c =
@@ -174,19 +146,15 @@ node-returns-in_ok-negated-in-Not g t c =
     let S : Facts = facts_of (g.R.Register.meaning c.args.register.now) in
     let D : ℕ = c.args.span.hours in
     let nodes : List Node = nodes_of c.args.job.now in
-    let L : ℕ = c.args.table.now.limit in
     let T0 : List Part = vec_items c.args.table.now.items in
     let k : ℕ = c.args.number in
     let B : Binding = c.args.binding in
     let tree = tree-read nodes k (Not c.in-Not.x) c.node_ref_at.ensures.value c.node_ref_at.ensures.below c.in-Not.is in
     let u : List Part = vec_items c.negated.new.table.items in
     let r : Result ℕ Full = Ok c.in_ok-negated-in-Not.field-0 in
-    record {
-      limit = c.negated.ensures.limit;
-      outcome = at-goal N S D L T0 u B r (sym tree)
-          (walk-not N S D L T0 u k B r (goal_of_node nodes c.in-Not.x)
-          c.in_ok-negated-in-Not.ensures.outcome);
-    }
+    at-goal N S D 4096 T0 u B r (sym tree)
+    (walk-not N S D 4096 T0 u k B r (goal_of_node nodes c.in-Not.x)
+    c.in_ok-negated-in-Not.ensures)
 
 pub node-returns-in_err-joined-in-And : goal.node-returns-in_err-joined-in-And
 node-returns-in_err-joined-in-And g t c =
@@ -194,7 +162,6 @@ node-returns-in_err-joined-in-And g t c =
     let S : Facts = facts_of (g.R.Register.meaning c.args.register.now) in
     let D : ℕ = c.args.span.hours in
     let nodes : List Node = nodes_of c.args.job.now in
-    let L : ℕ = c.args.table.now.limit in
     let T0 : List Part = vec_items c.args.table.now.items in
     let k : ℕ = c.args.number in
     let B : Binding = c.args.binding in
@@ -202,12 +169,9 @@ node-returns-in_err-joined-in-And g t c =
     let u : List Part = vec_items c.joined.new.table.items in
     let r : Result ℕ Full = c.from_residual-in_err-joined-in-And.result in
     let pr = err_from_is_err_and r c.from_residual-in_err-joined-in-And.ensures.1 in
-    record {
-      limit = c.joined.ensures.limit;
-      outcome = at-goal N S D L T0 u B r (sym tree)
-          (walk-and N S D L T0 u k B r (goal_of_node nodes c.in-And.left) (goal_of_node nodes c.in-And.right)
-          (at_pair c.args.job.now (g.R.Register.meaning c.args.register.now) c.args.span c.args.table.now c.joined.new.table B r c.new-pair.ensures (stop u _ _ r pr.0 pr.1 c.in_err-joined-in-And.ensures.outcome)));
-    }
+    at-goal N S D 4096 T0 u B r (sym tree)
+    (walk-and N S D 4096 T0 u k B r (goal_of_node nodes c.in-And.left) (goal_of_node nodes c.in-And.right)
+    (at_pair c.args.job.now (g.R.Register.meaning c.args.register.now) c.args.span c.args.table.now c.joined.new.table B r c.new-pair.ensures (stop u _ _ r pr.0 pr.1 c.in_err-joined-in-And.ensures)))
 
 pub node-returns-in_ok-joined-in-And : goal.node-returns-in_ok-joined-in-And
 node-returns-in_ok-joined-in-And g t c =
@@ -215,19 +179,15 @@ node-returns-in_ok-joined-in-And g t c =
     let S : Facts = facts_of (g.R.Register.meaning c.args.register.now) in
     let D : ℕ = c.args.span.hours in
     let nodes : List Node = nodes_of c.args.job.now in
-    let L : ℕ = c.args.table.now.limit in
     let T0 : List Part = vec_items c.args.table.now.items in
     let k : ℕ = c.args.number in
     let B : Binding = c.args.binding in
     let tree = tree-read nodes k (And c.in-And.left c.in-And.right) c.node_ref_at.ensures.value c.node_ref_at.ensures.below c.in-And.is in
     let u : List Part = vec_items c.joined.new.table.items in
     let r : Result ℕ Full = Ok c.in_ok-joined-in-And.field-0 in
-    record {
-      limit = c.joined.ensures.limit;
-      outcome = at-goal N S D L T0 u B r (sym tree)
-          (walk-and N S D L T0 u k B r (goal_of_node nodes c.in-And.left) (goal_of_node nodes c.in-And.right)
-          (at_pair c.args.job.now (g.R.Register.meaning c.args.register.now) c.args.span c.args.table.now c.joined.new.table B r c.new-pair.ensures c.in_ok-joined-in-And.ensures.outcome));
-    }
+    at-goal N S D 4096 T0 u B r (sym tree)
+    (walk-and N S D 4096 T0 u k B r (goal_of_node nodes c.in-And.left) (goal_of_node nodes c.in-And.right)
+    (at_pair c.args.job.now (g.R.Register.meaning c.args.register.now) c.args.span c.args.table.now c.joined.new.table B r c.new-pair.ensures c.in_ok-joined-in-And.ensures))
 
 pub node-returns-in_err-joined-in-Or : goal.node-returns-in_err-joined-in-Or
 node-returns-in_err-joined-in-Or g t c =
@@ -235,7 +195,6 @@ node-returns-in_err-joined-in-Or g t c =
     let S : Facts = facts_of (g.R.Register.meaning c.args.register.now) in
     let D : ℕ = c.args.span.hours in
     let nodes : List Node = nodes_of c.args.job.now in
-    let L : ℕ = c.args.table.now.limit in
     let T0 : List Part = vec_items c.args.table.now.items in
     let k : ℕ = c.args.number in
     let B : Binding = c.args.binding in
@@ -243,12 +202,9 @@ node-returns-in_err-joined-in-Or g t c =
     let u : List Part = vec_items c.joined-in-Or.new.table.items in
     let r : Result ℕ Full = c.from_residual-in_err-joined-in-Or.result in
     let pr = err_from_is_err_and r c.from_residual-in_err-joined-in-Or.ensures.1 in
-    record {
-      limit = c.joined-in-Or.ensures.limit;
-      outcome = at-goal N S D L T0 u B r (sym tree)
-          (walk-or N S D L T0 u k B r (goal_of_node nodes c.in-Or.left) (goal_of_node nodes c.in-Or.right)
-          (at_pair c.args.job.now (g.R.Register.meaning c.args.register.now) c.args.span c.args.table.now c.joined-in-Or.new.table B r c.new-pair-in-Or.ensures (stop u _ _ r pr.0 pr.1 c.in_err-joined-in-Or.ensures.outcome)));
-    }
+    at-goal N S D 4096 T0 u B r (sym tree)
+    (walk-or N S D 4096 T0 u k B r (goal_of_node nodes c.in-Or.left) (goal_of_node nodes c.in-Or.right)
+    (at_pair c.args.job.now (g.R.Register.meaning c.args.register.now) c.args.span c.args.table.now c.joined-in-Or.new.table B r c.new-pair-in-Or.ensures (stop u _ _ r pr.0 pr.1 c.in_err-joined-in-Or.ensures)))
 
 pub node-returns-in_ok-joined-in-Or : goal.node-returns-in_ok-joined-in-Or
 node-returns-in_ok-joined-in-Or g t c =
@@ -256,19 +212,15 @@ node-returns-in_ok-joined-in-Or g t c =
     let S : Facts = facts_of (g.R.Register.meaning c.args.register.now) in
     let D : ℕ = c.args.span.hours in
     let nodes : List Node = nodes_of c.args.job.now in
-    let L : ℕ = c.args.table.now.limit in
     let T0 : List Part = vec_items c.args.table.now.items in
     let k : ℕ = c.args.number in
     let B : Binding = c.args.binding in
     let tree = tree-read nodes k (Or c.in-Or.left c.in-Or.right) c.node_ref_at.ensures.value c.node_ref_at.ensures.below c.in-Or.is in
     let u : List Part = vec_items c.joined-in-Or.new.table.items in
     let r : Result ℕ Full = Ok c.in_ok-joined-in-Or.field-0 in
-    record {
-      limit = c.joined-in-Or.ensures.limit;
-      outcome = at-goal N S D L T0 u B r (sym tree)
-          (walk-or N S D L T0 u k B r (goal_of_node nodes c.in-Or.left) (goal_of_node nodes c.in-Or.right)
-          (at_pair c.args.job.now (g.R.Register.meaning c.args.register.now) c.args.span c.args.table.now c.joined-in-Or.new.table B r c.new-pair-in-Or.ensures c.in_ok-joined-in-Or.ensures.outcome));
-    }
+    at-goal N S D 4096 T0 u B r (sym tree)
+    (walk-or N S D 4096 T0 u k B r (goal_of_node nodes c.in-Or.left) (goal_of_node nodes c.in-Or.right)
+    (at_pair c.args.job.now (g.R.Register.meaning c.args.register.now) c.args.span c.args.table.now c.joined-in-Or.new.table B r c.new-pair-in-Or.ensures c.in_ok-joined-in-Or.ensures))
 
 pub node-returns-in_err-waiting-in-Next : goal.node-returns-in_err-waiting-in-Next
 node-returns-in_err-waiting-in-Next g t c =
@@ -276,7 +228,6 @@ node-returns-in_err-waiting-in-Next g t c =
     let S : Facts = facts_of (g.R.Register.meaning c.args.register.now) in
     let D : ℕ = c.args.span.hours in
     let nodes : List Node = nodes_of c.args.job.now in
-    let L : ℕ = c.args.table.now.limit in
     let T0 : List Part = vec_items c.args.table.now.items in
     let k : ℕ = c.args.number in
     let B : Binding = c.args.binding in
@@ -284,12 +235,9 @@ node-returns-in_err-waiting-in-Next g t c =
     let u : List Part = vec_items c.waiting.new.table.items in
     let r : Result ℕ Full = c.from_residual-in_err-waiting-in-Next.result in
     let pr = err_from_is_err_and r c.from_residual-in_err-waiting-in-Next.ensures.1 in
-    record {
-      limit = c.waiting.ensures.limit;
-      outcome = at-goal N S D L T0 u B r (sym tree)
-          (walk-next N S D L T0 u k B r (goal_of_node nodes c.in-Next.x)
-          (stop u _ _ r pr.0 pr.1 c.in_err-waiting-in-Next.ensures.outcome));
-    }
+    at-goal N S D 4096 T0 u B r (sym tree)
+    (walk-next N S D 4096 T0 u k B r (goal_of_node nodes c.in-Next.x)
+    (stop u _ _ r pr.0 pr.1 c.in_err-waiting-in-Next.ensures))
 
 pub node-returns-in_ok-waiting-in-Next : goal.node-returns-in_ok-waiting-in-Next
 node-returns-in_ok-waiting-in-Next g t c =
@@ -297,19 +245,15 @@ node-returns-in_ok-waiting-in-Next g t c =
     let S : Facts = facts_of (g.R.Register.meaning c.args.register.now) in
     let D : ℕ = c.args.span.hours in
     let nodes : List Node = nodes_of c.args.job.now in
-    let L : ℕ = c.args.table.now.limit in
     let T0 : List Part = vec_items c.args.table.now.items in
     let k : ℕ = c.args.number in
     let B : Binding = c.args.binding in
     let tree = tree-read nodes k (Next c.in-Next.x) c.node_ref_at.ensures.value c.node_ref_at.ensures.below c.in-Next.is in
     let u : List Part = vec_items c.waiting.new.table.items in
     let r : Result ℕ Full = Ok c.in_ok-waiting-in-Next.field-0 in
-    record {
-      limit = c.waiting.ensures.limit;
-      outcome = at-goal N S D L T0 u B r (sym tree)
-          (walk-next N S D L T0 u k B r (goal_of_node nodes c.in-Next.x)
-          c.in_ok-waiting-in-Next.ensures.outcome);
-    }
+    at-goal N S D 4096 T0 u B r (sym tree)
+    (walk-next N S D 4096 T0 u k B r (goal_of_node nodes c.in-Next.x)
+    c.in_ok-waiting-in-Next.ensures)
 
 pub node-returns-in_err-until-in-Until : goal.node-returns-in_err-until-in-Until
 node-returns-in_err-until-in-Until g t c =
@@ -317,7 +261,6 @@ node-returns-in_err-until-in-Until g t c =
     let S : Facts = facts_of (g.R.Register.meaning c.args.register.now) in
     let D : ℕ = c.args.span.hours in
     let nodes : List Node = nodes_of c.args.job.now in
-    let L : ℕ = c.args.table.now.limit in
     let T0 : List Part = vec_items c.args.table.now.items in
     let k : ℕ = c.args.number in
     let B : Binding = c.args.binding in
@@ -325,11 +268,8 @@ node-returns-in_err-until-in-Until g t c =
     let u : List Part = vec_items c.until.new.table.items in
     let r : Result ℕ Full = c.from_residual-in_err-until-in-Until.result in
     let pr = err_from_is_err_and r c.from_residual-in_err-until-in-Until.ensures.1 in
-    record {
-      limit = c.until.ensures.limit;
-      outcome = at-goal N S D L T0 u B r (sym tree)
-          (at_wait c.args.job.now (g.R.Register.meaning c.args.register.now) c.args.span c.args.table.now c.until.new.table B r c.new-wait.ensures (stop u _ _ r pr.0 pr.1 c.in_err-until-in-Until.ensures.outcome));
-    }
+    at-goal N S D 4096 T0 u B r (sym tree)
+    (at_wait c.args.job.now (g.R.Register.meaning c.args.register.now) c.args.span c.args.table.now c.until.new.table B r c.new-wait.ensures (stop u _ _ r pr.0 pr.1 c.in_err-until-in-Until.ensures))
 
 pub node-returns-in_ok-until-in-Until : goal.node-returns-in_ok-until-in-Until
 node-returns-in_ok-until-in-Until g t c =
@@ -337,18 +277,14 @@ node-returns-in_ok-until-in-Until g t c =
     let S : Facts = facts_of (g.R.Register.meaning c.args.register.now) in
     let D : ℕ = c.args.span.hours in
     let nodes : List Node = nodes_of c.args.job.now in
-    let L : ℕ = c.args.table.now.limit in
     let T0 : List Part = vec_items c.args.table.now.items in
     let k : ℕ = c.args.number in
     let B : Binding = c.args.binding in
     let tree = tree-read nodes k (Until c.in-Until.ends c.in-Until.hold c.in-Until.reach) c.node_ref_at.ensures.value c.node_ref_at.ensures.below c.in-Until.is in
     let u : List Part = vec_items c.until.new.table.items in
     let r : Result ℕ Full = Ok c.in_ok-until-in-Until.field-0 in
-    record {
-      limit = c.until.ensures.limit;
-      outcome = at-goal N S D L T0 u B r (sym tree)
-          (at_wait c.args.job.now (g.R.Register.meaning c.args.register.now) c.args.span c.args.table.now c.until.new.table B r c.new-wait.ensures c.in_ok-until-in-Until.ensures.outcome);
-    }
+    at-goal N S D 4096 T0 u B r (sym tree)
+    (at_wait c.args.job.now (g.R.Register.meaning c.args.register.now) c.args.span c.args.table.now c.until.new.table B r c.new-wait.ensures c.in_ok-until-in-Until.ensures)
 
 pub node-returns-in_err-quantified-in-ForAll : goal.node-returns-in_err-quantified-in-ForAll
 node-returns-in_err-quantified-in-ForAll g t c =
@@ -356,7 +292,6 @@ node-returns-in_err-quantified-in-ForAll g t c =
     let S : Facts = facts_of (g.R.Register.meaning c.args.register.now) in
     let D : ℕ = c.args.span.hours in
     let nodes : List Node = nodes_of c.args.job.now in
-    let L : ℕ = c.args.table.now.limit in
     let T0 : List Part = vec_items c.args.table.now.items in
     let k : ℕ = c.args.number in
     let B : Binding = c.args.binding in
@@ -364,12 +299,9 @@ node-returns-in_err-quantified-in-ForAll g t c =
     let u : List Part = vec_items c.quantified.new.table.items in
     let r : Result ℕ Full = c.from_residual-in_err-quantified-in-ForAll.result in
     let pr = err_from_is_err_and r c.from_residual-in_err-quantified-in-ForAll.ensures.1 in
-    record {
-      limit = c.quantified.ensures.limit;
-      outcome = at-goal N S D L T0 u B r (sym tree)
-          (walk-all N S D L T0 u k B r c.in-ForAll.variable c.in-ForAll.bound (goal_of_node nodes c.in-ForAll.body)
-          (at-range c.args.job.now (g.R.Register.meaning c.args.register.now) c.args.span c.args.table.now c.quantified.new.table B r c.new-range.ensures (stop u _ _ r pr.0 pr.1 c.in_err-quantified-in-ForAll.ensures.outcome)));
-    }
+    at-goal N S D 4096 T0 u B r (sym tree)
+    (walk-all N S D 4096 T0 u k B r c.in-ForAll.variable c.in-ForAll.bound (goal_of_node nodes c.in-ForAll.body)
+    (at-range c.args.job.now (g.R.Register.meaning c.args.register.now) c.args.span c.args.table.now c.quantified.new.table B r c.new-range.ensures (stop u _ _ r pr.0 pr.1 c.in_err-quantified-in-ForAll.ensures)))
 
 pub node-returns-in_ok-quantified-in-ForAll : goal.node-returns-in_ok-quantified-in-ForAll
 node-returns-in_ok-quantified-in-ForAll g t c =
@@ -377,19 +309,15 @@ node-returns-in_ok-quantified-in-ForAll g t c =
     let S : Facts = facts_of (g.R.Register.meaning c.args.register.now) in
     let D : ℕ = c.args.span.hours in
     let nodes : List Node = nodes_of c.args.job.now in
-    let L : ℕ = c.args.table.now.limit in
     let T0 : List Part = vec_items c.args.table.now.items in
     let k : ℕ = c.args.number in
     let B : Binding = c.args.binding in
     let tree = tree-read nodes k (ForAll c.in-ForAll.variable c.in-ForAll.bound c.in-ForAll.body) c.node_ref_at.ensures.value c.node_ref_at.ensures.below c.in-ForAll.is in
     let u : List Part = vec_items c.quantified.new.table.items in
     let r : Result ℕ Full = Ok c.in_ok-quantified-in-ForAll.field-0 in
-    record {
-      limit = c.quantified.ensures.limit;
-      outcome = at-goal N S D L T0 u B r (sym tree)
-          (walk-all N S D L T0 u k B r c.in-ForAll.variable c.in-ForAll.bound (goal_of_node nodes c.in-ForAll.body)
-          (at-range c.args.job.now (g.R.Register.meaning c.args.register.now) c.args.span c.args.table.now c.quantified.new.table B r c.new-range.ensures c.in_ok-quantified-in-ForAll.ensures.outcome));
-    }
+    at-goal N S D 4096 T0 u B r (sym tree)
+    (walk-all N S D 4096 T0 u k B r c.in-ForAll.variable c.in-ForAll.bound (goal_of_node nodes c.in-ForAll.body)
+    (at-range c.args.job.now (g.R.Register.meaning c.args.register.now) c.args.span c.args.table.now c.quantified.new.table B r c.new-range.ensures c.in_ok-quantified-in-ForAll.ensures))
 
 pub node-returns-in_err-quantified-in-Exists : goal.node-returns-in_err-quantified-in-Exists
 node-returns-in_err-quantified-in-Exists g t c =
@@ -397,7 +325,6 @@ node-returns-in_err-quantified-in-Exists g t c =
     let S : Facts = facts_of (g.R.Register.meaning c.args.register.now) in
     let D : ℕ = c.args.span.hours in
     let nodes : List Node = nodes_of c.args.job.now in
-    let L : ℕ = c.args.table.now.limit in
     let T0 : List Part = vec_items c.args.table.now.items in
     let k : ℕ = c.args.number in
     let B : Binding = c.args.binding in
@@ -405,12 +332,9 @@ node-returns-in_err-quantified-in-Exists g t c =
     let u : List Part = vec_items c.quantified-in-Exists.new.table.items in
     let r : Result ℕ Full = c.from_residual-in_err-quantified-in-Exists.result in
     let pr = err_from_is_err_and r c.from_residual-in_err-quantified-in-Exists.ensures.1 in
-    record {
-      limit = c.quantified-in-Exists.ensures.limit;
-      outcome = at-goal N S D L T0 u B r (sym tree)
-          (walk-exists N S D L T0 u k B r c.in-Exists.variable c.in-Exists.bound (goal_of_node nodes c.in-Exists.body)
-          (at-range c.args.job.now (g.R.Register.meaning c.args.register.now) c.args.span c.args.table.now c.quantified-in-Exists.new.table B r c.new-range-in-Exists.ensures (stop u _ _ r pr.0 pr.1 c.in_err-quantified-in-Exists.ensures.outcome)));
-    }
+    at-goal N S D 4096 T0 u B r (sym tree)
+    (walk-exists N S D 4096 T0 u k B r c.in-Exists.variable c.in-Exists.bound (goal_of_node nodes c.in-Exists.body)
+    (at-range c.args.job.now (g.R.Register.meaning c.args.register.now) c.args.span c.args.table.now c.quantified-in-Exists.new.table B r c.new-range-in-Exists.ensures (stop u _ _ r pr.0 pr.1 c.in_err-quantified-in-Exists.ensures)))
 
 pub node-returns-in_ok-quantified-in-Exists : goal.node-returns-in_ok-quantified-in-Exists
 node-returns-in_ok-quantified-in-Exists g t c =
@@ -418,19 +342,15 @@ node-returns-in_ok-quantified-in-Exists g t c =
     let S : Facts = facts_of (g.R.Register.meaning c.args.register.now) in
     let D : ℕ = c.args.span.hours in
     let nodes : List Node = nodes_of c.args.job.now in
-    let L : ℕ = c.args.table.now.limit in
     let T0 : List Part = vec_items c.args.table.now.items in
     let k : ℕ = c.args.number in
     let B : Binding = c.args.binding in
     let tree = tree-read nodes k (Exists c.in-Exists.variable c.in-Exists.bound c.in-Exists.body) c.node_ref_at.ensures.value c.node_ref_at.ensures.below c.in-Exists.is in
     let u : List Part = vec_items c.quantified-in-Exists.new.table.items in
     let r : Result ℕ Full = Ok c.in_ok-quantified-in-Exists.field-0 in
-    record {
-      limit = c.quantified-in-Exists.ensures.limit;
-      outcome = at-goal N S D L T0 u B r (sym tree)
-          (walk-exists N S D L T0 u k B r c.in-Exists.variable c.in-Exists.bound (goal_of_node nodes c.in-Exists.body)
-          (at-range c.args.job.now (g.R.Register.meaning c.args.register.now) c.args.span c.args.table.now c.quantified-in-Exists.new.table B r c.new-range-in-Exists.ensures c.in_ok-quantified-in-Exists.ensures.outcome));
-    }
+    at-goal N S D 4096 T0 u B r (sym tree)
+    (walk-exists N S D 4096 T0 u k B r c.in-Exists.variable c.in-Exists.bound (goal_of_node nodes c.in-Exists.body)
+    (at-range c.args.job.now (g.R.Register.meaning c.args.register.now) c.args.span c.args.table.now c.quantified-in-Exists.new.table B r c.new-range-in-Exists.ensures c.in_ok-quantified-in-Exists.ensures))
 
 pub negated-returns-in_err-p : goal.negated-returns-in_err-p
 negated-returns-in_err-p g t c =
@@ -438,17 +358,13 @@ negated-returns-in_err-p g t c =
     let S : Facts = facts_of (g.R.Register.meaning c.args.register.now) in
     let D : ℕ = c.args.span.hours in
     let nodes : List Node = nodes_of c.args.job.now in
-    let L : ℕ = c.args.table.now.limit in
     let T0 : List Part = vec_items c.args.table.now.items in
     let φ : Goal = goal_of_node nodes c.args.number in
     let B = c.args.binding in
     let p = progress N S D φ B in
     let a = results N S D φ B in
     let pr = err_from_is_err_and c.from_residual.result c.from_residual.ensures.1 in
-    record {
-      limit = c.node.ensures.limit;
-      outcome = stop (vec_items c.node.new.table.items) (negate p) (negate p ∷ a) c.from_residual.result pr.0 pr.1 (not-over p a c.in_err-p.ensures.outcome);
-    }
+    stop (vec_items c.node.new.table.items) (negate p) (negate p ∷ a) c.from_residual.result pr.0 pr.1 (not-over p a c.in_err-p.ensures)
 
 pub negated-returns : goal.negated-returns
 negated-returns g t c =
@@ -456,15 +372,11 @@ negated-returns g t c =
     let S : Facts = facts_of (g.R.Register.meaning c.args.register.now) in
     let D : ℕ = c.args.span.hours in
     let nodes : List Node = nodes_of c.args.job.now in
-    let L : ℕ = c.args.table.now.limit in
     let T0 : List Part = vec_items c.args.table.now.items in
     let u : List Part = vec_items c.node.new.table.items in
     let v : List Part = vec_items c.negate.new.self.items in
-    record {
-      limit = c.negate.ensures.limit ∙ c.node.ensures.limit;
-      outcome = after-negate L v c.in_ok-p.p c.negate.result c.in_ok-p.ensures.outcome
-          (at-limit u v _ _ c.negate.result c.node.ensures.limit c.negate.ensures.outcome);
-    }
+    after-negate 4096 v c.in_ok-p.p c.negate.result c.in_ok-p.ensures
+    c.negate.ensures
 
 pub joined-returns-in_err-p : goal.joined-returns-in_err-p
 joined-returns-in_err-p g t c =
@@ -472,7 +384,6 @@ joined-returns-in_err-p g t c =
     let S : Facts = facts_of (g.R.Register.meaning c.args.register.now) in
     let D : ℕ = c.args.span.hours in
     let nodes : List Node = nodes_of c.args.job.now in
-    let L : ℕ = c.args.table.now.limit in
     let T0 : List Part = vec_items c.args.table.now.items in
     let φ : Goal = goal_of_node nodes c.args.pair.left in
     let ψ : Goal = goal_of_node nodes c.args.pair.right in
@@ -483,10 +394,7 @@ joined-returns-in_err-p g t c =
     let a = results N S D φ B in
     let b = results N S D ψ B in
     let pr = err_from_is_err_and c.from_residual.result c.from_residual.ensures.1 in
-    record {
-      limit = c.node.ensures.limit;
-      outcome = stop (vec_items c.node.new.table.items) (J p q) (J p q ∷ (a ++ b)) c.from_residual.result pr.0 pr.1 (left_over J p q a b c.in_err-p.ensures.outcome);
-    }
+    stop (vec_items c.node.new.table.items) (J p q) (J p q ∷ (a ++ b)) c.from_residual.result pr.0 pr.1 (left_over J p q a b c.in_err-p.ensures)
 
 pub joined-returns-in_err-q : goal.joined-returns-in_err-q
 joined-returns-in_err-q g t c =
@@ -494,7 +402,6 @@ joined-returns-in_err-q g t c =
     let S : Facts = facts_of (g.R.Register.meaning c.args.register.now) in
     let D : ℕ = c.args.span.hours in
     let nodes : List Node = nodes_of c.args.job.now in
-    let L : ℕ = c.args.table.now.limit in
     let T0 : List Part = vec_items c.args.table.now.items in
     let φ : Goal = goal_of_node nodes c.args.pair.left in
     let ψ : Goal = goal_of_node nodes c.args.pair.right in
@@ -505,11 +412,8 @@ joined-returns-in_err-q g t c =
     let a = results N S D φ B in
     let b = results N S D ψ B in
     let pr = err_from_is_err_and c.from_residual-in_err-q.result c.from_residual-in_err-q.ensures.1 in
-    record {
-      limit = c.node-2.ensures.limit ∙ c.node.ensures.limit;
-      outcome = stop (vec_items c.node-2.new.table.items) (J p q) (J p q ∷ (a ++ b)) c.from_residual-in_err-q.result pr.0 pr.1
-          (right_over J p q a b c.node.ensures.limit c.in_ok-p.ensures.outcome c.in_err-q.ensures.outcome);
-    }
+    stop (vec_items c.node-2.new.table.items) (J p q) (J p q ∷ (a ++ b)) c.from_residual-in_err-q.result pr.0 pr.1
+    (right_over J p q a b c.in_ok-p.ensures c.in_err-q.ensures)
 
 pub joined-returns : goal.joined-returns
 joined-returns g t c =
@@ -517,7 +421,6 @@ joined-returns g t c =
     let S : Facts = facts_of (g.R.Register.meaning c.args.register.now) in
     let D : ℕ = c.args.span.hours in
     let nodes : List Node = nodes_of c.args.job.now in
-    let L : ℕ = c.args.table.now.limit in
     let T0 : List Part = vec_items c.args.table.now.items in
     let φ : Goal = goal_of_node nodes c.args.pair.left in
     let ψ : Goal = goal_of_node nodes c.args.pair.right in
@@ -527,14 +430,10 @@ joined-returns g t c =
     let q = progress N S D ψ B in
     let a = results N S D φ B in
     let b = results N S D ψ B in
-    let e = c.node-2.ensures.limit ∙ c.node.ensures.limit in
     let v : List Part = (vec_items c.node-2.new.table.items) in
     let w : List Part = (vec_items c.join.new.self.items) in
-    record {
-      limit = c.join.ensures.limit ∙ e;
-      outcome = after-join L w J c.in_ok-p.p c.in_ok-q.q c.join.result c.in_ok-p.ensures.outcome c.in_ok-q.ensures.outcome
-          (at-limit v w _ _ c.join.result e c.join.ensures.outcome);
-    }
+    after-join 4096 w J c.in_ok-p.p c.in_ok-q.q c.join.result c.in_ok-p.ensures c.in_ok-q.ensures
+    c.join.ensures
 
 pub until-returns-in_err-p : goal.until-returns-in_err-p
 until-returns-in_err-p g t c =
@@ -542,7 +441,6 @@ until-returns-in_err-p g t c =
     let S : Facts = facts_of (g.R.Register.meaning c.args.register.now) in
     let D : ℕ = c.args.span.hours in
     let nodes : List Node = nodes_of c.args.job.now in
-    let L : ℕ = c.args.table.now.limit in
     let T0 : List Part = vec_items c.args.table.now.items in
     let k : ℕ = c.args.wait.node in
     let e = c.args.wait.ends in
@@ -552,10 +450,7 @@ until-returns-in_err-p g t c =
     let X = progress N S D (until k e φ ψ) B in
     let M = results N S D (until k e φ ψ) B in
     let pr = err_from_is_err_and c.from_residual.result c.from_residual.ensures.1 in
-    record {
-      limit = c.node.ensures.limit;
-      outcome = stop (vec_items c.node.new.table.items) X M c.from_residual.result pr.0 pr.1 (hold_over N S D k e φ ψ B c.in_err-p.ensures.outcome);
-    }
+    stop (vec_items c.node.new.table.items) X M c.from_residual.result pr.0 pr.1 (hold_over N S D k e φ ψ B c.in_err-p.ensures)
 
 pub until-returns-in_err-later : goal.until-returns-in_err-later
 until-returns-in_err-later g t c =
@@ -563,7 +458,6 @@ until-returns-in_err-later g t c =
     let S : Facts = facts_of (g.R.Register.meaning c.args.register.now) in
     let D : ℕ = c.args.span.hours in
     let nodes : List Node = nodes_of c.args.job.now in
-    let L : ℕ = c.args.table.now.limit in
     let T0 : List Part = vec_items c.args.table.now.items in
     let k : ℕ = c.args.wait.node in
     let e = c.args.wait.ends in
@@ -573,10 +467,7 @@ until-returns-in_err-later g t c =
     let X = progress N S D (until k e φ ψ) B in
     let M = results N S D (until k e φ ψ) B in
     let pr = err_from_is_err_and c.from_residual-in_err-later.result c.from_residual-in_err-later.ensures.1 in
-    record {
-      limit = (c.rest.ensures.limit ∙ c.node.ensures.limit);
-      outcome = stop (vec_items c.rest.new.table.items) X M c.from_residual-in_err-later.result pr.0 pr.1 (rest_over N S D k e φ ψ B c.node.ensures.limit c.in_ok-p.ensures.outcome c.in_err-later.ensures.outcome);
-    }
+    stop (vec_items c.rest.new.table.items) X M c.from_residual-in_err-later.result pr.0 pr.1 (rest_over N S D k e φ ψ B c.in_ok-p.ensures c.in_err-later.ensures)
 
 pub until-returns-in_err-q : goal.until-returns-in_err-q
 until-returns-in_err-q g t c =
@@ -584,7 +475,6 @@ until-returns-in_err-q g t c =
     let S : Facts = facts_of (g.R.Register.meaning c.args.register.now) in
     let D : ℕ = c.args.span.hours in
     let nodes : List Node = nodes_of c.args.job.now in
-    let L : ℕ = c.args.table.now.limit in
     let T0 : List Part = vec_items c.args.table.now.items in
     let k : ℕ = c.args.wait.node in
     let e = c.args.wait.ends in
@@ -594,10 +484,7 @@ until-returns-in_err-q g t c =
     let X = progress N S D (until k e φ ψ) B in
     let M = results N S D (until k e φ ψ) B in
     let pr = err_from_is_err_and c.from_residual-in_err-q.result c.from_residual-in_err-q.ensures.1 in
-    record {
-      limit = (c.conjoin.ensures.limit ∙ (c.rest.ensures.limit ∙ c.node.ensures.limit));
-      outcome = stop (vec_items c.conjoin.new.self.items) X M c.from_residual-in_err-q.result pr.0 pr.1 (both-over N S D k e φ ψ B c.in_ok-p.p c.in_ok-later.later c.in_ok-p.ensures.outcome c.in_ok-later.ensures.outcome (c.rest.ensures.limit ∙ c.node.ensures.limit) c.in_err-q.ensures.outcome);
-    }
+    stop (vec_items c.conjoin.new.self.items) X M c.from_residual-in_err-q.result pr.0 pr.1 (both-over N S D k e φ ψ B c.in_ok-p.p c.in_ok-later.later c.in_ok-p.ensures c.in_ok-later.ensures c.in_err-q.ensures)
 
 pub until-returns-then-wait-gt0 : goal.until-returns-then-wait-gt0
 until-returns-then-wait-gt0 g t c =
@@ -605,7 +492,6 @@ until-returns-then-wait-gt0 g t c =
     let S : Facts = facts_of (g.R.Register.meaning c.args.register.now) in
     let D : ℕ = c.args.span.hours in
     let nodes : List Node = nodes_of c.args.job.now in
-    let L : ℕ = c.args.table.now.limit in
     let T0 : List Part = vec_items c.args.table.now.items in
     let k : ℕ = c.args.wait.node in
     let e = c.args.wait.ends in
@@ -614,10 +500,7 @@ until-returns-then-wait-gt0 g t c =
     let B = c.args.binding in
     let X = progress N S D (until k e φ ψ) B in
     let M = results N S D (until k e φ ψ) B in
-    record {
-      limit = (c.conjoin.ensures.limit ∙ (c.rest.ensures.limit ∙ c.node.ensures.limit));
-      outcome = waits N S D k e φ ψ B c.in_ok-p.p c.in_ok-later.later c.in_ok-p.ensures.outcome c.in_ok-later.ensures.outcome c.in_ok-q.q c.in_ok-q.ensures.outcome c.if-wait-gt0.true;
-    }
+    waits N S D k e φ ψ B c.in_ok-p.p c.in_ok-later.later c.in_ok-p.ensures c.in_ok-later.ensures c.in_ok-q.q c.in_ok-q.ensures c.if-wait-gt0.true
 
 pub until-returns-in_err-reached : goal.until-returns-in_err-reached
 until-returns-in_err-reached g t c =
@@ -625,7 +508,6 @@ until-returns-in_err-reached g t c =
     let S : Facts = facts_of (g.R.Register.meaning c.args.register.now) in
     let D : ℕ = c.args.span.hours in
     let nodes : List Node = nodes_of c.args.job.now in
-    let L : ℕ = c.args.table.now.limit in
     let T0 : List Part = vec_items c.args.table.now.items in
     let k : ℕ = c.args.wait.node in
     let e = c.args.wait.ends in
@@ -635,10 +517,7 @@ until-returns-in_err-reached g t c =
     let X = progress N S D (until k e φ ψ) B in
     let M = results N S D (until k e φ ψ) B in
     let pr = err_from_is_err_and c.from_residual-in_err-reached.result c.from_residual-in_err-reached.ensures.1 in
-    record {
-      limit = (c.node-2.ensures.limit ∙ (c.conjoin.ensures.limit ∙ (c.rest.ensures.limit ∙ c.node.ensures.limit)));
-      outcome = stop (vec_items c.node-2.new.table.items) X M c.from_residual-in_err-reached.result pr.0 pr.1 (reach-over N S D k e φ ψ B c.in_ok-p.p c.in_ok-later.later c.in_ok-p.ensures.outcome c.in_ok-later.ensures.outcome c.in_ok-q.q c.in_ok-q.ensures.outcome c.if-wait-gt0.false (c.conjoin.ensures.limit ∙ (c.rest.ensures.limit ∙ c.node.ensures.limit)) c.in_err-reached.ensures.outcome);
-    }
+    stop (vec_items c.node-2.new.table.items) X M c.from_residual-in_err-reached.result pr.0 pr.1 (reach-over N S D k e φ ψ B c.in_ok-p.p c.in_ok-later.later c.in_ok-p.ensures c.in_ok-later.ensures c.in_ok-q.q c.in_ok-q.ensures c.if-wait-gt0.false c.in_err-reached.ensures)
 
 pub until-returns : goal.until-returns
 until-returns g t c =
@@ -646,7 +525,6 @@ until-returns g t c =
     let S : Facts = facts_of (g.R.Register.meaning c.args.register.now) in
     let D : ℕ = c.args.span.hours in
     let nodes : List Node = nodes_of c.args.job.now in
-    let L : ℕ = c.args.table.now.limit in
     let T0 : List Part = vec_items c.args.table.now.items in
     let k : ℕ = c.args.wait.node in
     let e = c.args.wait.ends in
@@ -655,11 +533,8 @@ until-returns g t c =
     let B = c.args.binding in
     let X = progress N S D (until k e φ ψ) B in
     let M = results N S D (until k e φ ψ) B in
-    record {
-      limit = c.disjoin.ensures.limit ∙ (c.node-2.ensures.limit ∙ (c.conjoin.ensures.limit ∙ (c.rest.ensures.limit ∙ c.node.ensures.limit)));
-      outcome = reaches-it N S D k e φ ψ B c.in_ok-p.p c.in_ok-later.later c.in_ok-p.ensures.outcome c.in_ok-later.ensures.outcome c.in_ok-q.q c.in_ok-q.ensures.outcome c.if-wait-gt0.false (vec_items c.disjoin.new.self.items) c.in_ok-reached.reached c.disjoin.result (c.node-2.ensures.limit ∙ (c.conjoin.ensures.limit ∙ (c.rest.ensures.limit ∙ c.node.ensures.limit)))
-          c.in_ok-reached.ensures.outcome c.disjoin.ensures.outcome;
-    }
+    reaches-it N S D k e φ ψ B c.in_ok-p.p c.in_ok-later.later c.in_ok-p.ensures c.in_ok-later.ensures c.in_ok-q.q c.in_ok-q.ensures c.if-wait-gt0.false 4096 (vec_items c.disjoin.new.self.items) c.in_ok-reached.reached c.disjoin.result
+    c.in_ok-reached.ensures c.disjoin.ensures
 
 pub quantified-returns-in_err-so_far : goal.quantified-returns-in_err-so_far
 quantified-returns-in_err-so_far g t c =
@@ -667,7 +542,6 @@ quantified-returns-in_err-so_far g t c =
     let S : Facts = facts_of (g.R.Register.meaning c.args.register.now) in
     let D : ℕ = c.args.span.hours in
     let nodes : List Node = nodes_of c.args.job.now in
-    let L : ℕ = c.args.table.now.limit in
     let T0 : List Part = vec_items c.args.table.now.items in
     let by = c.args.range.by in
     let v = c.args.range.variable in
@@ -677,10 +551,7 @@ quantified-returns-in_err-so_far g t c =
     let X = joined_to N S D by v at φ B N in
     let M = results_to N S D by v at φ B N in
     let pr = err_from_is_err_and c.from_residual.result c.from_residual.ensures.1 in
-    record {
-      limit = c.start.ensures.limit;
-      outcome = stop (vec_items c.start.new.self.items) X M c.from_residual.result pr.0 pr.1 (start-over N S D by v at φ B c.in_err-so_far.ensures.outcome);
-    }
+    stop (vec_items c.start.new.self.items) X M c.from_residual.result pr.0 pr.1 (start-over N S D by v at φ B c.in_err-so_far.ensures)
 
 pub quantified-loop-id-init : goal.quantified-loop-id-init
 quantified-loop-id-init g t c =
@@ -688,7 +559,6 @@ quantified-loop-id-init g t c =
     let S : Facts = facts_of (g.R.Register.meaning c.args.register.now) in
     let D : ℕ = c.args.span.hours in
     let nodes : List Node = nodes_of c.args.job.now in
-    let L : ℕ = c.args.table.now.limit in
     let T0 : List Part = vec_items c.args.table.now.items in
     let by = c.args.range.by in
     let v = c.args.range.variable in
@@ -697,7 +567,7 @@ quantified-loop-id-init g t c =
     let B = c.args.binding in
     let X = joined_to N S D by v at φ B N in
     let M = results_to N S D by v at φ B N in
-    (refl, begins N S D by v at φ B c.start.new.self.order c.in_ok-so_far.ensures.outcome)
+    begins N S D by v at φ B c.start.new.self.order c.in_ok-so_far.ensures
 
 pub quantified-returns-in_err-p : goal.quantified-returns-in_err-p
 quantified-returns-in_err-p g t c =
@@ -705,7 +575,6 @@ quantified-returns-in_err-p g t c =
     let S : Facts = facts_of (g.R.Register.meaning c.args.register.now) in
     let D : ℕ = c.args.span.hours in
     let nodes : List Node = nodes_of c.args.job.now in
-    let L : ℕ = c.args.table.now.limit in
     let T0 : List Part = vec_items c.args.table.now.items in
     let by = c.args.range.by in
     let v = c.args.range.variable in
@@ -716,12 +585,9 @@ quantified-returns-in_err-p g t c =
     let M = results_to N S D by v at φ B N in
     let pr = err_from_is_err_and c.from_residual-in_err-p.result c.from_residual-in_err-p.ensures.1 in
     let lt : c.loop-id.id < N = omega (arith, c.ids-id-end.ensures.value, c.loop-id-test.true) in
-    record {
-      limit = c.node.ensures.limit ∙ (c.loop-id.invariant.0 ∙ c.start.ensures.limit);
-      outcome = stop (vec_items c.node.new.table.items) X M c.from_residual-in_err-p.result pr.0 pr.1
-          (turn_over N S D by v at φ B c.start.ensures.limit c.in_ok-so_far.ensures.outcome
-          (item-over N S D by v at φ B c.loop-id.id c.with-bound.result c.with-bound.ensures c.loop-id.so_far c.loop-id.invariant.1 (sym c.is_fact.ensures ∙ c.if-is_fact.true) c.loop-id.invariant.0 lt c.in_err-p.ensures.outcome));
-    }
+    stop (vec_items c.node.new.table.items) X M c.from_residual-in_err-p.result pr.0 pr.1
+    (turn_over N S D by v at φ B c.in_ok-so_far.ensures
+    (item-over N S D by v at φ B c.loop-id.id c.with-bound.result c.with-bound.ensures c.loop-id.so_far c.loop-id.invariant (sym c.is_fact.ensures ∙ c.if-is_fact.true) lt c.in_err-p.ensures))
 
 pub quantified-returns-in_err-so_far-2 : goal.quantified-returns-in_err-so_far-2
 quantified-returns-in_err-so_far-2 g t c =
@@ -729,7 +595,6 @@ quantified-returns-in_err-so_far-2 g t c =
     let S : Facts = facts_of (g.R.Register.meaning c.args.register.now) in
     let D : ℕ = c.args.span.hours in
     let nodes : List Node = nodes_of c.args.job.now in
-    let L : ℕ = c.args.table.now.limit in
     let T0 : List Part = vec_items c.args.table.now.items in
     let by = c.args.range.by in
     let v = c.args.range.variable in
@@ -740,13 +605,10 @@ quantified-returns-in_err-so_far-2 g t c =
     let M = results_to N S D by v at φ B N in
     let pr = err_from_is_err_and c.from_residual-in_err-so_far-2.result c.from_residual-in_err-so_far-2.ensures.1 in
     let lt : c.loop-id.id < N = omega (arith, c.ids-id-end.ensures.value, c.loop-id-test.true) in
-    record {
-      limit = c.join.ensures.limit ∙ (c.node.ensures.limit ∙ (c.loop-id.invariant.0 ∙ c.start.ensures.limit));
-      outcome = stop (vec_items c.join.new.self.items) X M c.from_residual-in_err-so_far-2.result pr.0 pr.1
-          (turn_over N S D by v at φ B c.start.ensures.limit c.in_ok-so_far.ensures.outcome
-          (join-over N S D by v at φ B c.loop-id.id c.with-bound.result c.with-bound.ensures c.loop-id.so_far c.loop-id.invariant.1 (sym c.is_fact.ensures ∙ c.if-is_fact.true) c.in_ok-p.p c.in_ok-p.ensures.outcome
-          (c.node.ensures.limit ∙ c.loop-id.invariant.0) lt c.in_err-so_far-2.ensures.outcome));
-    }
+    stop (vec_items c.join.new.self.items) X M c.from_residual-in_err-so_far-2.result pr.0 pr.1
+    (turn_over N S D by v at φ B c.in_ok-so_far.ensures
+    (join-over N S D by v at φ B c.loop-id.id c.with-bound.result c.with-bound.ensures c.loop-id.so_far c.loop-id.invariant (sym c.is_fact.ensures ∙ c.if-is_fact.true) c.in_ok-p.p c.in_ok-p.ensures
+    lt c.in_err-so_far-2.ensures))
 
 pub quantified-loop-id-preserved : goal.quantified-loop-id-preserved
 quantified-loop-id-preserved g t c =
@@ -754,7 +616,6 @@ quantified-loop-id-preserved g t c =
     let S : Facts = facts_of (g.R.Register.meaning c.args.register.now) in
     let D : ℕ = c.args.span.hours in
     let nodes : List Node = nodes_of c.args.job.now in
-    let L : ℕ = c.args.table.now.limit in
     let T0 : List Part = vec_items c.args.table.now.items in
     let by = c.args.range.by in
     let v = c.args.range.variable in
@@ -763,19 +624,17 @@ quantified-loop-id-preserved g t c =
     let B = c.args.binding in
     let X = joined_to N S D by v at φ B N in
     let M = results_to N S D by v at φ B N in
-    let Goes : Table → ℕ → Type 0 = λ tb j. (tb.limit ≡ c.start.new.self.limit) × Made (vec_items c.start.new.self.items) (vec_items tb.items) (joined_to N S D by v at φ B (c.loop-id.id + 1)) (results_to N S D by v at φ B (c.loop-id.id + 1)) j in
+    let Goes : Table 4096 → ℕ → Type 0 = λ tb j. Made (vec_items c.start.new.self.items) (vec_items tb.items) (joined_to N S D by v at φ B (c.loop-id.id + 1)) (results_to N S D by v at φ B (c.loop-id.id + 1)) j in
     elim c.if-is_fact.branch [
       | quantified-then-is_fact+in_ok-p+in_ok-so_far-2 w ↦
-          subst (λ (tb : Table). Goes tb c.if-is_fact.so_far) (sym w.table-is)
-          (subst (Goes w.join.new.self) (sym w.so_far-is) (
-            w.join.ensures.limit ∙ (w.node.ensures.limit ∙ c.loop-id.invariant.0),
-            joins N S D by v at φ B c.loop-id.id c.with-bound.result c.with-bound.ensures c.loop-id.so_far c.loop-id.invariant.1 (sym c.is_fact.ensures ∙ w.if-is_fact.true) w.in_ok-p.p w.in_ok-p.ensures.outcome
-                w.in_ok-so_far-2.ensures.outcome,
-          ))
+          subst (λ (tb : Table 4096). Goes tb c.if-is_fact.so_far) (sym w.table-is)
+          (subst (Goes w.join.new.self) (sym w.so_far-is)
+          (joins N S D by v at φ B c.loop-id.id c.with-bound.result c.with-bound.ensures c.loop-id.so_far c.loop-id.invariant (sym c.is_fact.ensures ∙ w.if-is_fact.true) w.in_ok-p.p w.in_ok-p.ensures
+          w.in_ok-so_far-2.ensures))
       | quantified-else-is_fact w ↦
-          subst (λ (tb : Table). Goes tb c.if-is_fact.so_far) (sym w.table-is)
+          subst (λ (tb : Table 4096). Goes tb c.if-is_fact.so_far) (sym w.table-is)
           (subst (Goes c.loop-id.table) (sym w.so_far-is)
-          (c.loop-id.invariant.0, skips N S D by v at φ B c.loop-id.id c.with-bound.result c.with-bound.ensures c.loop-id.so_far c.loop-id.invariant.1 (sym c.is_fact.ensures ∙ w.if-is_fact.false)))
+          (skips N S D by v at φ B c.loop-id.id c.with-bound.result c.with-bound.ensures c.loop-id.so_far c.loop-id.invariant (sym c.is_fact.ensures ∙ w.if-is_fact.false)))
     ]
 
 pub quantified-returns : goal.quantified-returns
@@ -784,7 +643,6 @@ quantified-returns g t c =
     let S : Facts = facts_of (g.R.Register.meaning c.args.register.now) in
     let D : ℕ = c.args.span.hours in
     let nodes : List Node = nodes_of c.args.job.now in
-    let L : ℕ = c.args.table.now.limit in
     let T0 : List Part = vec_items c.args.table.now.items in
     let by = c.args.range.by in
     let v = c.args.range.variable in
@@ -794,7 +652,4 @@ quantified-returns g t c =
     let X = joined_to N S D by v at φ B N in
     let M = results_to N S D by v at φ B N in
     let n : c.loop-id.id ≡ N = omega (arith, c.ids-id-end.ensures.value) in
-    record {
-      limit = c.loop-id.invariant.0 ∙ c.start.ensures.limit;
-      outcome = all_turns N S D by v at φ B c.loop-id.id n c.in_ok-so_far.ensures.outcome c.loop-id.invariant.1;
-    }
+    all_turns N S D by v at φ B c.loop-id.id n c.in_ok-so_far.ensures c.loop-id.invariant

@@ -1,4 +1,4 @@
-use Rattle.std.proofs.Common.{◌≡◌, ◌+◌, ◌*◌, vec_items}
+use Rattle.std.proofs.Common.{◌+◌, ◌*◌, vec_items}
 use Rattle.goals.specs.JobView.{ids_of, nodes_of}
 use Rattle.labels.specs.Goals.{goal_of_node}
 use Rattle.labels.specs.Growth.{Made}
@@ -23,8 +23,7 @@ decreases-quantified g l = l.range.node * 2
 
 abbrev pub invariant-quantified-loop-id : goal.invariant-quantified-loop-id
 invariant-quantified-loop-id g l =
-    (l.table.limit ≡ l.initial.table.limit)
-    × Made (vec_items l.initial.table.items) (vec_items l.table.items)
+    Made (vec_items l.initial.table.items) (vec_items l.table.items)
     (joined_to (ids_of l.job) (facts_of (g.R.Register.meaning l.register)) l.span.hours l.range.by l.range.variable l.range.bound (goal_of_node (nodes_of l.job) l.range.body) l.binding l.id)
     (results_to (ids_of l.job) (facts_of (g.R.Register.meaning l.register)) l.span.hours l.range.by l.range.variable l.range.bound (goal_of_node (nodes_of l.job) l.range.body) l.binding l.id)
     l.so_far

@@ -1,4 +1,4 @@
-use Rattle.std.proofs.Common.{◌≡◌, ℕ, ◌<◌, List, [], ◌∷◌, ◌++◌, length, get_or, vec_items, vec_len, sym, refl, subst, arith}
+use Rattle.std.proofs.Common.{◌≡◌, ℕ, ◌<◌, List, [], ◌∷◌, ◌++◌, length, get_or, vec_items, vec_len, sym, subst, arith}
 use Rattle.std.proofs.lemmas.List.{get_or_read}
 use Rattle.labels.specs.declared.part.Part.{Part}
 use Rattle.labels.specs.declared.part.Part.TheVariants.{True}
@@ -9,21 +9,21 @@ use Rattle.labels.proofs.Links.{index_pushed}
 use Rattle.labels.proofs.table.Table.add.Goals as goal
 
 pub returns-then-at-n : goal.returns-then-at-n
-returns-then-at-n c =
+returns-then-at-n g c =
     let t : List Part = vec_items c.args.self.now.items in
     let v : vec_len c.args.self.now.items ≡ length t = c.args.self.now.items.ok.0 in
     let lt : c.find-at.result < length t = omega arith in
-    record { limit = refl; outcome = found t c.args.self.now.order c.args.part c.find-at.result lt (c.find-at.ensures.there lt) }
+    found t c.args.self.now.order c.args.part c.find-at.result lt (c.find-at.ensures.there lt)
 
-pub returns-then-n-self : goal.returns-then-n-self
-returns-then-n-self c =
+pub returns-then-n : goal.returns-then-n
+returns-then-n g c =
     let t : List Part = vec_items c.args.self.now.items in
     let v : vec_len c.args.self.now.items ≡ length t = c.args.self.now.items.ok.0 in
     let none : (k : ℕ) → k < length t → get_or t k True ≡ c.args.part → ⊥ = c.find-at.ensures.none (omega arith) in
-    record { limit = refl; outcome = full t c.args.self.now.order c.args.self.now.twins c.args.part c.requires none c.args.self.now.limit (omega arith) }
+    full t c.args.self.now.order c.args.self.now.twins c.args.part c.requires none g.row.LIMIT (omega arith)
 
 pub invariant_of-self : goal.invariant_of-self
-invariant_of-self c =
+invariant_of-self g c =
     let t : List Part = vec_items c.args.self.now.items in
     let hs : List ℕ = vec_items c.args.self.now.heads in
     let ns : List ℕ = vec_items c.args.self.now.next in
@@ -40,7 +40,6 @@ invariant_of-self c =
     (vec_items c.push_reserved.new.self) (vec_items c.push_reserved-2.new.self) c.hash-h.result c.index-last.result.now
     c.push_reserved.ensures.items c.push_reserved-2.ensures.items c.hash-h.ensures.value last in
     record {
-      small = c.args.self.now.small;
       room = omega arith;
       few = omega arith;
       order = subst InOrder (sym c.push_reserved.ensures.items) (pushed_order t c.args.self.now.order c.args.self.now.twins c.args.part c.requires none);
@@ -57,15 +56,11 @@ invariant_of-self c =
     }
 
 pub returns : goal.returns
-returns c =
+returns g c =
     let t : List Part = vec_items c.args.self.now.items in
     let v : vec_len c.args.self.now.items ≡ length t = c.args.self.now.items.ok.0 in
     let none : (k : ℕ) → k < length t → get_or t k True ≡ c.args.part → ⊥ = c.find-at.ensures.none (omega arith) in
     let e : length t ≡ c.len-n.result = omega arith in
-    record {
-      limit = refl;
-      outcome =
-          subst (λ (u : List Part). Made t u (composed (label_at t) c.args.part) (composed (label_at t) c.args.part ∷ []) c.len-n.result) (sym c.push_reserved.ensures.items)
-          (subst (Made t (t ++ c.args.part ∷ []) (composed (label_at t) c.args.part) (composed (label_at t) c.args.part ∷ [])) e
-          (pushed t c.args.self.now.order c.args.self.now.twins c.args.part c.requires none));
-    }
+    subst (λ (u : List Part). Made t u (composed (label_at t) c.args.part) (composed (label_at t) c.args.part ∷ []) c.len-n.result) (sym c.push_reserved.ensures.items)
+    (subst (Made t (t ++ c.args.part ∷ []) (composed (label_at t) c.args.part) (composed (label_at t) c.args.part ∷ [])) e
+    (pushed t c.args.self.now.order c.args.self.now.twins c.args.part c.requires none))

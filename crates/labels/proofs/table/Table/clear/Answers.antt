@@ -2,14 +2,13 @@ use Rattle.std.proofs.Common.{◌≡◌, length, vec_items, vec_capacity, ap, ar
 use Rattle.labels.proofs.table.Table.clear.Goals as goal
 
 pub invariant_of-self : goal.invariant_of-self
-invariant_of-self c =
+invariant_of-self g c =
     let none : length (vec_items c.clear.new.self) ≡ 0 = ap length c.clear.ensures.items in
     let few = c.clear.ensures.len in
     let beside = c.clear-2.ensures.len in
     let a : vec_capacity c.clear.new.self ≡ vec_capacity c.args.self.now.items = c.clear.ensures.capacity in
     let b : vec_capacity c.clear-2.new.self ≡ vec_capacity c.args.self.now.next = c.clear-2.ensures.capacity in
     record {
-      small = c.args.self.now.small;
       room = omega (arith, c.args.self.now.room);
       few = omega arith;
       order = λ k l. absurd (omega arith);

@@ -8,7 +8,7 @@ use Rattle.labels.proofs.Links.{walk_on}
 use Rattle.labels.proofs.table.Table.find.Goals as goal
 
 pub loop-at-init : goal.loop-at-init
-loop-at-init c =
+loop-at-init g c =
     let t : List Part = vec_items c.args.self.now.items in
     let hs : List ℕ = vec_items c.args.self.now.heads in
     let w : vec_len c.args.self.now.heads ≡ length hs = c.args.self.now.heads.ok.0 in
@@ -25,13 +25,13 @@ place : (at : ℕ) → 0 < at → at ≡ suc (at - 1)
 place at lt = omega arith
 
 pub index-requires : goal.index-requires
-index-requires c =
+index-requires g c =
     let v : vec_len c.args.self.now.items ≡ length (vec_items c.args.self.now.items) = c.args.self.now.items.ok.0 in
     let h = c.loop-at.invariant.1 (c.loop-at.at - 1) (omega arith) in
     omega (arith, h.0)
 
 pub loop-at-smaller : goal.loop-at-smaller
-loop-at-smaller c =
+loop-at-smaller g c =
     let t : List Part = vec_items c.args.self.now.items in
     let ns : List ℕ = vec_items c.args.self.now.next in
     let v : vec_len c.args.self.now.items ≡ length t = c.args.self.now.items.ok.0 in
@@ -46,7 +46,7 @@ loop-at-smaller c =
     ]
 
 pub loop-at-preserved : goal.loop-at-preserved
-loop-at-preserved c =
+loop-at-preserved g c =
     let t : List Part = vec_items c.args.self.now.items in
     let ns : List ℕ = vec_items c.args.self.now.next in
     let v : vec_len c.args.self.now.items ≡ length t = c.args.self.now.items.ok.0 in

@@ -14,16 +14,15 @@ no_head hs e b k q = elim (dec_lt b 1024) [
 ]
 
 pub returns-in_err-next : goal.returns-in_err-next
-returns-in_err-next c = IfOk-from_err c.from_residual-in_err-next.result _ (let p = err_from_is_err_and c.from_residual-in_err-next.result c.from_residual-in_err-next.ensures.1 in ap is_err p.1)
+returns-in_err-next g c = IfOk-from_err c.from_residual-in_err-next.result _ (let p = err_from_is_err_and c.from_residual-in_err-next.result c.from_residual-in_err-next.ensures.1 in ap is_err p.1)
 
 pub invariant_of-result : goal.invariant_of-result
-invariant_of-result c =
+invariant_of-result g c =
     let e = c.in_ok-heads.ensures.items_if_clones_equal (λ y h. h) in
     let i = c.in_ok-items.ensures in
     let n = c.in_ok-next.ensures in
     let none : length (vec_items c.in_ok-items.items) ≡ 0 = ap length i.items in
     record {
-      small = c.requires;
       room = omega (arith, i.capacity);
       few = omega (arith, i.len);
       order = λ k l. absurd (omega arith);

@@ -122,127 +122,129 @@ pub fn rest(
     })
 }
 
-// The progress of a goal node under a binding, at the register's facts, over the span.
-// An arm is `Ok(..?)` and not the call alone: compiled, a `Result` that is passed on whole is copied slowly.
-#[cycle(joined_negated_node_quantified_until)]
-pub fn node<R: Register>(
-    table: &mut Table<MOST_WORK>,
-    job: &Job,
-    register: &R,
-    span: Span,
-    number: usize,
-    binding: Binding,
-) -> Result<usize, Full>
-    ensures { Walks job.now (R.Register.meaning register.now) span table.old table.new (node_of job.now number) binding result }
-{
-    match *node_ref_at(job, number) {
-        Node::True => Ok(table.settle(true)?),
-        Node::Test(atom) => Ok(table.settle(is_fact(register, binding, atom))?),
-        Node::Equal(left, right) => Ok(table.settle(binding.value(left) == binding.value(right))?),
-        Node::Not(x) => Ok(negated(table, job, register, span, x, binding)?),
-        Node::And(left, right) => {
-            let pair = Pair::new(Connective::And, number, left, right);
-            Ok(joined(table, job, register, span, pair, binding)?)
-        }
-        Node::Or(left, right) => {
-            let pair = Pair::new(Connective::Or, number, left, right);
-            Ok(joined(table, job, register, span, pair, binding)?)
-        }
-        Node::Next(x) => Ok(waiting(table, job, x, binding)?),
-        Node::Until(ends, hold, reach) => {
-            let wait = Wait::new(number, ends, hold, reach);
-            Ok(until(table, job, register, span, wait, binding)?)
-        }
-        Node::ForAll(variable, bound, body) => {
-            let range = Range::new(Connective::And, number, variable, bound, body);
-            Ok(quantified(table, job, register, span, range, binding)?)
-        }
-        Node::Exists(variable, bound, body) => {
-            let range = Range::new(Connective::Or, number, variable, bound, body);
-            Ok(quantified(table, job, register, span, range, binding)?)
+// What a step is worked out by: the job, the register that has the facts before it, and its span.
+#[derive(Drop)]
+pub struct Step<'a, R> {
+    pub job: &'a Job,
+    pub register: &'a R,
+    pub span: Span,
+}
+
+impl<'a, R: Register> Step<'a, R> {
+    // The progress of a goal node under a binding, at the register's facts, over the span.
+    // An arm is `Ok(..?)` and not the call alone: compiled, a `Result` that is passed on whole is copied slowly.
+    #[cycle(joined_negated_node_quantified_until)]
+    pub fn node(
+        &self,
+        table: &mut Table<MOST_WORK>,
+        number: usize,
+        binding: Binding,
+    ) -> Result<usize, Full>
+        ensures { Walks self.now.job.now (R.Register.meaning self.now.register.now) self.now.span table.old table.new (node_of self.now.job.now number) binding result }
+    {
+        match *node_ref_at(self.job, number) {
+            Node::True => Ok(table.settle(true)?),
+            Node::Test(atom) => Ok(table.settle(is_fact(self.register, binding, atom))?),
+            Node::Equal(left, right) => Ok(table.settle(
+                binding.value(left) == binding.value(right),
+            )?),
+            Node::Not(x) => Ok(self.negated(table, x, binding)?),
+            Node::And(left, right) => {
+                let pair = Pair::new(Connective::And, number, left, right);
+                Ok(self.joined(table, pair, binding)?)
+            }
+            Node::Or(left, right) => {
+                let pair = Pair::new(Connective::Or, number, left, right);
+                Ok(self.joined(table, pair, binding)?)
+            }
+            Node::Next(x) => Ok(waiting(table, self.job, x, binding)?),
+            Node::Until(ends, hold, reach) => {
+                let wait = Wait::new(number, ends, hold, reach);
+                Ok(self.until(table, wait, binding)?)
+            }
+            Node::ForAll(variable, bound, body) => {
+                let range = Range::new(Connective::And, number, variable, bound, body);
+                Ok(self.quantified(table, range, binding)?)
+            }
+            Node::Exists(variable, bound, body) => {
+                let range = Range::new(Connective::Or, number, variable, bound, body);
+                Ok(self.quantified(table, range, binding)?)
+            }
         }
     }
-}
 
-// The progress of a node, negated.
-#[cycle(joined_negated_node_quantified_until)]
-fn negated<R: Register>(
-    table: &mut Table<MOST_WORK>,
-    job: &Job,
-    register: &R,
-    span: Span,
-    number: usize,
-    binding: Binding,
-) -> Result<usize, Full>
-    ensures { WalksNot job.now (R.Register.meaning register.now) span table.old table.new number binding result }
-{
-    let p = node(table, job, register, span, number, binding)?;
-    table.negate(p)
-}
-
-// The progress of two parts, joined.
-#[cycle(joined_negated_node_quantified_until)]
-fn joined<R: Register>(
-    table: &mut Table<MOST_WORK>,
-    job: &Job,
-    register: &R,
-    span: Span,
-    pair: Pair,
-    binding: Binding,
-) -> Result<usize, Full>
-    requires left { pair.left < pair.node }
-    requires right { pair.right < pair.node }
-    ensures { WalksPair job.now (R.Register.meaning register.now) span table.old table.new pair binding result }
-{
-    let p = node(table, job, register, span, pair.left, binding)?;
-    let q = node(table, job, register, span, pair.right, binding)?;
-    table.join(pair.by, p, q)
-}
-
-// The progress of an until with any ends.
-#[cycle(joined_negated_node_quantified_until)]
-pub fn until<R: Register>(
-    table: &mut Table<MOST_WORK>,
-    job: &Job,
-    register: &R,
-    span: Span,
-    wait: Wait,
-    binding: Binding,
-) -> Result<usize, Full>
-    requires hold { wait.hold < wait.node }
-    requires reach { wait.reach < wait.node }
-    ensures { Walks job.now (R.Register.meaning register.now) span table.old table.new (wait_of job.now wait) binding result }
-{
-    let p = node(table, job, register, span, wait.hold, binding)?;
-    let later = rest(table, span, wait.node, binding, wait.ends)?;
-    let q = table.conjoin(p, later)?;
-    if wait.ends.lower.hours > 0 {
-        return Ok(q);
+    // The progress of a node, negated.
+    #[cycle(joined_negated_node_quantified_until)]
+    fn negated(
+        &self,
+        table: &mut Table<MOST_WORK>,
+        number: usize,
+        binding: Binding,
+    ) -> Result<usize, Full>
+        ensures { WalksNot self.now.job.now (R.Register.meaning self.now.register.now) self.now.span table.old table.new number binding result }
+    {
+        let p = self.node(table, number, binding)?;
+        table.negate(p)
     }
-    let reached = node(table, job, register, span, wait.reach, binding)?;
-    table.disjoin(reached, q)
-}
 
-// The progress of a quantifier: the labels of the ids in its range, joined in rising order to the right of the start.
-#[cycle(joined_negated_node_quantified_until)]
-fn quantified<R: Register>(
-    table: &mut Table<MOST_WORK>,
-    job: &Job,
-    register: &R,
-    span: Span,
-    range: Range,
-    binding: Binding,
-) -> Result<usize, Full>
-    requires { range.body < range.node }
-    ensures { WalksRange job.now (R.Register.meaning register.now) span table.old table.new range binding result }
-{
-    let mut so_far = table.start(range.by)?;
-    for id in 0..job.ids() {
-        let bound = binding.with(range.variable, id);
-        if is_fact(register, bound, range.bound) {
-            let p = node(table, job, register, span, range.body, bound)?;
-            so_far = table.join(range.by, so_far, p)?;
+    // The progress of two parts, joined.
+    #[cycle(joined_negated_node_quantified_until)]
+    fn joined(
+        &self,
+        table: &mut Table<MOST_WORK>,
+        pair: Pair,
+        binding: Binding,
+    ) -> Result<usize, Full>
+        requires left { pair.left < pair.node }
+        requires right { pair.right < pair.node }
+        ensures { WalksPair self.now.job.now (R.Register.meaning self.now.register.now) self.now.span table.old table.new pair binding result }
+    {
+        let p = self.node(table, pair.left, binding)?;
+        let q = self.node(table, pair.right, binding)?;
+        table.join(pair.by, p, q)
+    }
+
+    // The progress of an until with any ends.
+    #[cycle(joined_negated_node_quantified_until)]
+    pub fn until(
+        &self,
+        table: &mut Table<MOST_WORK>,
+        wait: Wait,
+        binding: Binding,
+    ) -> Result<usize, Full>
+        requires hold { wait.hold < wait.node }
+        requires reach { wait.reach < wait.node }
+        ensures { Walks self.now.job.now (R.Register.meaning self.now.register.now) self.now.span table.old table.new (wait_of self.now.job.now wait) binding result }
+    {
+        let p = self.node(table, wait.hold, binding)?;
+        let later = rest(table, self.span, wait.node, binding, wait.ends)?;
+        let q = table.conjoin(p, later)?;
+        if wait.ends.lower.hours > 0 {
+            return Ok(q);
         }
+        let reached = self.node(table, wait.reach, binding)?;
+        table.disjoin(reached, q)
     }
-    Ok(so_far)
+
+    // The progress of a quantifier: the labels of the ids in its range, joined in rising order to the right of the start.
+    #[cycle(joined_negated_node_quantified_until)]
+    fn quantified(
+        &self,
+        table: &mut Table<MOST_WORK>,
+        range: Range,
+        binding: Binding,
+    ) -> Result<usize, Full>
+        requires { range.body < range.node }
+        ensures { WalksRange self.now.job.now (R.Register.meaning self.now.register.now) self.now.span table.old table.new range binding result }
+    {
+        let mut so_far = table.start(range.by)?;
+        for id in 0..self.job.ids() {
+            let bound = binding.with(range.variable, id);
+            if is_fact(self.register, bound, range.bound) {
+                let p = self.node(table, range.body, bound)?;
+                so_far = table.join(range.by, so_far, p)?;
+            }
+        }
+        Ok(so_far)
+    }
 }

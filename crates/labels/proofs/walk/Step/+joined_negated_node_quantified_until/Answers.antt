@@ -20,16 +20,16 @@ use Rattle.labels.proofs.Trees.{tree-read}
 use Rattle.labels.proofs.Shapes.{at_pair, at_wait, at-range}
 use Rattle.labels.proofs.Calls.{after-negate, after-join}
 use Rattle.labels.proofs.Walking.{stop, left_over, right_over, at-goal, walk_top, walk-test, walk-equal, walk-next, walk-and, walk-or, walk-all, walk-exists, walk-not, not-over, hold_over, rest_over, both-over, waits, reach-over, reaches-it, begins, skips, item-over, join-over, joins, all_turns, start-over, turn_over}
-use Rattle.labels.proofs.walk.+joined_negated_node_quantified_until.Goals as goal
-use Rattle.labels.proofs.walk.+joined_negated_node_quantified_until.Goals.{quantified-then-is_fact+in_ok-p+in_ok-so_far-2, quantified-else-is_fact}
+use Rattle.labels.proofs.walk.Step.+joined_negated_node_quantified_until.Goals as goal
+use Rattle.labels.proofs.walk.Step.+joined_negated_node_quantified_until.Goals.{quantified-then-is_fact+in_ok-p+in_ok-so_far-2, quantified-else-is_fact}
 
 -- the arms of a node: the limit is passed, or the place is told
 pub node-returns-in_err-settle-in-True : goal.node-returns-in_err-settle-in-True
 node-returns-in_err-settle-in-True g t c =
-    let N : ℕ = ids_of c.args.job.now in
-    let S : Facts = facts_of (g.R.Register.meaning c.args.register.now) in
-    let D : ℕ = c.args.span.hours in
-    let nodes : List Node = nodes_of c.args.job.now in
+    let N : ℕ = ids_of c.args.self.now.job.now in
+    let S : Facts = facts_of (g.R.Register.meaning c.args.self.now.register.now) in
+    let D : ℕ = c.args.self.now.span.hours in
+    let nodes : List Node = nodes_of c.args.self.now.job.now in
     let T0 : List Part = vec_items c.args.table.now.items in
     let k : ℕ = c.args.number in
     let B : Binding = c.args.binding in
@@ -43,10 +43,10 @@ node-returns-in_err-settle-in-True g t c =
 
 pub node-returns-in_ok-settle-in-True : goal.node-returns-in_ok-settle-in-True
 node-returns-in_ok-settle-in-True g t c =
-    let N : ℕ = ids_of c.args.job.now in
-    let S : Facts = facts_of (g.R.Register.meaning c.args.register.now) in
-    let D : ℕ = c.args.span.hours in
-    let nodes : List Node = nodes_of c.args.job.now in
+    let N : ℕ = ids_of c.args.self.now.job.now in
+    let S : Facts = facts_of (g.R.Register.meaning c.args.self.now.register.now) in
+    let D : ℕ = c.args.self.now.span.hours in
+    let nodes : List Node = nodes_of c.args.self.now.job.now in
     let T0 : List Part = vec_items c.args.table.now.items in
     let k : ℕ = c.args.number in
     let B : Binding = c.args.binding in
@@ -59,10 +59,10 @@ node-returns-in_ok-settle-in-True g t c =
 
 pub node-returns-in_err-settle-in-Test : goal.node-returns-in_err-settle-in-Test
 node-returns-in_err-settle-in-Test g t c =
-    let N : ℕ = ids_of c.args.job.now in
-    let S : Facts = facts_of (g.R.Register.meaning c.args.register.now) in
-    let D : ℕ = c.args.span.hours in
-    let nodes : List Node = nodes_of c.args.job.now in
+    let N : ℕ = ids_of c.args.self.now.job.now in
+    let S : Facts = facts_of (g.R.Register.meaning c.args.self.now.register.now) in
+    let D : ℕ = c.args.self.now.span.hours in
+    let nodes : List Node = nodes_of c.args.self.now.job.now in
     let T0 : List Part = vec_items c.args.table.now.items in
     let k : ℕ = c.args.number in
     let B : Binding = c.args.binding in
@@ -76,10 +76,10 @@ node-returns-in_err-settle-in-Test g t c =
 
 pub node-returns-in_ok-settle-in-Test : goal.node-returns-in_ok-settle-in-Test
 node-returns-in_ok-settle-in-Test g t c =
-    let N : ℕ = ids_of c.args.job.now in
-    let S : Facts = facts_of (g.R.Register.meaning c.args.register.now) in
-    let D : ℕ = c.args.span.hours in
-    let nodes : List Node = nodes_of c.args.job.now in
+    let N : ℕ = ids_of c.args.self.now.job.now in
+    let S : Facts = facts_of (g.R.Register.meaning c.args.self.now.register.now) in
+    let D : ℕ = c.args.self.now.span.hours in
+    let nodes : List Node = nodes_of c.args.self.now.job.now in
     let T0 : List Part = vec_items c.args.table.now.items in
     let k : ℕ = c.args.number in
     let B : Binding = c.args.binding in
@@ -92,10 +92,10 @@ node-returns-in_ok-settle-in-Test g t c =
 
 pub node-returns-in_err-settle-in-Equal : goal.node-returns-in_err-settle-in-Equal
 node-returns-in_err-settle-in-Equal g t c =
-    let N : ℕ = ids_of c.args.job.now in
-    let S : Facts = facts_of (g.R.Register.meaning c.args.register.now) in
-    let D : ℕ = c.args.span.hours in
-    let nodes : List Node = nodes_of c.args.job.now in
+    let N : ℕ = ids_of c.args.self.now.job.now in
+    let S : Facts = facts_of (g.R.Register.meaning c.args.self.now.register.now) in
+    let D : ℕ = c.args.self.now.span.hours in
+    let nodes : List Node = nodes_of c.args.self.now.job.now in
     let T0 : List Part = vec_items c.args.table.now.items in
     let k : ℕ = c.args.number in
     let B : Binding = c.args.binding in
@@ -109,10 +109,10 @@ node-returns-in_err-settle-in-Equal g t c =
 
 pub node-returns-in_ok-settle-in-Equal : goal.node-returns-in_ok-settle-in-Equal
 node-returns-in_ok-settle-in-Equal g t c =
-    let N : ℕ = ids_of c.args.job.now in
-    let S : Facts = facts_of (g.R.Register.meaning c.args.register.now) in
-    let D : ℕ = c.args.span.hours in
-    let nodes : List Node = nodes_of c.args.job.now in
+    let N : ℕ = ids_of c.args.self.now.job.now in
+    let S : Facts = facts_of (g.R.Register.meaning c.args.self.now.register.now) in
+    let D : ℕ = c.args.self.now.span.hours in
+    let nodes : List Node = nodes_of c.args.self.now.job.now in
     let T0 : List Part = vec_items c.args.table.now.items in
     let k : ℕ = c.args.number in
     let B : Binding = c.args.binding in
@@ -125,10 +125,10 @@ node-returns-in_ok-settle-in-Equal g t c =
 
 pub node-returns-in_err-negated-in-Not : goal.node-returns-in_err-negated-in-Not
 node-returns-in_err-negated-in-Not g t c =
-    let N : ℕ = ids_of c.args.job.now in
-    let S : Facts = facts_of (g.R.Register.meaning c.args.register.now) in
-    let D : ℕ = c.args.span.hours in
-    let nodes : List Node = nodes_of c.args.job.now in
+    let N : ℕ = ids_of c.args.self.now.job.now in
+    let S : Facts = facts_of (g.R.Register.meaning c.args.self.now.register.now) in
+    let D : ℕ = c.args.self.now.span.hours in
+    let nodes : List Node = nodes_of c.args.self.now.job.now in
     let T0 : List Part = vec_items c.args.table.now.items in
     let k : ℕ = c.args.number in
     let B : Binding = c.args.binding in
@@ -142,10 +142,10 @@ node-returns-in_err-negated-in-Not g t c =
 
 pub node-returns-in_ok-negated-in-Not : goal.node-returns-in_ok-negated-in-Not
 node-returns-in_ok-negated-in-Not g t c =
-    let N : ℕ = ids_of c.args.job.now in
-    let S : Facts = facts_of (g.R.Register.meaning c.args.register.now) in
-    let D : ℕ = c.args.span.hours in
-    let nodes : List Node = nodes_of c.args.job.now in
+    let N : ℕ = ids_of c.args.self.now.job.now in
+    let S : Facts = facts_of (g.R.Register.meaning c.args.self.now.register.now) in
+    let D : ℕ = c.args.self.now.span.hours in
+    let nodes : List Node = nodes_of c.args.self.now.job.now in
     let T0 : List Part = vec_items c.args.table.now.items in
     let k : ℕ = c.args.number in
     let B : Binding = c.args.binding in
@@ -158,10 +158,10 @@ node-returns-in_ok-negated-in-Not g t c =
 
 pub node-returns-in_err-joined-in-And : goal.node-returns-in_err-joined-in-And
 node-returns-in_err-joined-in-And g t c =
-    let N : ℕ = ids_of c.args.job.now in
-    let S : Facts = facts_of (g.R.Register.meaning c.args.register.now) in
-    let D : ℕ = c.args.span.hours in
-    let nodes : List Node = nodes_of c.args.job.now in
+    let N : ℕ = ids_of c.args.self.now.job.now in
+    let S : Facts = facts_of (g.R.Register.meaning c.args.self.now.register.now) in
+    let D : ℕ = c.args.self.now.span.hours in
+    let nodes : List Node = nodes_of c.args.self.now.job.now in
     let T0 : List Part = vec_items c.args.table.now.items in
     let k : ℕ = c.args.number in
     let B : Binding = c.args.binding in
@@ -171,14 +171,14 @@ node-returns-in_err-joined-in-And g t c =
     let pr = err_from_is_err_and r c.from_residual-in_err-joined-in-And.ensures.1 in
     at-goal N S D 4096 T0 u B r (sym tree)
     (walk-and N S D 4096 T0 u k B r (goal_of_node nodes c.in-And.left) (goal_of_node nodes c.in-And.right)
-    (at_pair c.args.job.now (g.R.Register.meaning c.args.register.now) c.args.span c.args.table.now c.joined.new.table B r c.new-pair.ensures (stop u _ _ r pr.0 pr.1 c.in_err-joined-in-And.ensures)))
+    (at_pair c.args.self.now.job.now (g.R.Register.meaning c.args.self.now.register.now) c.args.self.now.span c.args.table.now c.joined.new.table B r c.new-pair.ensures (stop u _ _ r pr.0 pr.1 c.in_err-joined-in-And.ensures)))
 
 pub node-returns-in_ok-joined-in-And : goal.node-returns-in_ok-joined-in-And
 node-returns-in_ok-joined-in-And g t c =
-    let N : ℕ = ids_of c.args.job.now in
-    let S : Facts = facts_of (g.R.Register.meaning c.args.register.now) in
-    let D : ℕ = c.args.span.hours in
-    let nodes : List Node = nodes_of c.args.job.now in
+    let N : ℕ = ids_of c.args.self.now.job.now in
+    let S : Facts = facts_of (g.R.Register.meaning c.args.self.now.register.now) in
+    let D : ℕ = c.args.self.now.span.hours in
+    let nodes : List Node = nodes_of c.args.self.now.job.now in
     let T0 : List Part = vec_items c.args.table.now.items in
     let k : ℕ = c.args.number in
     let B : Binding = c.args.binding in
@@ -187,14 +187,14 @@ node-returns-in_ok-joined-in-And g t c =
     let r : Result ℕ Full = Ok c.in_ok-joined-in-And.field-0 in
     at-goal N S D 4096 T0 u B r (sym tree)
     (walk-and N S D 4096 T0 u k B r (goal_of_node nodes c.in-And.left) (goal_of_node nodes c.in-And.right)
-    (at_pair c.args.job.now (g.R.Register.meaning c.args.register.now) c.args.span c.args.table.now c.joined.new.table B r c.new-pair.ensures c.in_ok-joined-in-And.ensures))
+    (at_pair c.args.self.now.job.now (g.R.Register.meaning c.args.self.now.register.now) c.args.self.now.span c.args.table.now c.joined.new.table B r c.new-pair.ensures c.in_ok-joined-in-And.ensures))
 
 pub node-returns-in_err-joined-in-Or : goal.node-returns-in_err-joined-in-Or
 node-returns-in_err-joined-in-Or g t c =
-    let N : ℕ = ids_of c.args.job.now in
-    let S : Facts = facts_of (g.R.Register.meaning c.args.register.now) in
-    let D : ℕ = c.args.span.hours in
-    let nodes : List Node = nodes_of c.args.job.now in
+    let N : ℕ = ids_of c.args.self.now.job.now in
+    let S : Facts = facts_of (g.R.Register.meaning c.args.self.now.register.now) in
+    let D : ℕ = c.args.self.now.span.hours in
+    let nodes : List Node = nodes_of c.args.self.now.job.now in
     let T0 : List Part = vec_items c.args.table.now.items in
     let k : ℕ = c.args.number in
     let B : Binding = c.args.binding in
@@ -204,14 +204,14 @@ node-returns-in_err-joined-in-Or g t c =
     let pr = err_from_is_err_and r c.from_residual-in_err-joined-in-Or.ensures.1 in
     at-goal N S D 4096 T0 u B r (sym tree)
     (walk-or N S D 4096 T0 u k B r (goal_of_node nodes c.in-Or.left) (goal_of_node nodes c.in-Or.right)
-    (at_pair c.args.job.now (g.R.Register.meaning c.args.register.now) c.args.span c.args.table.now c.joined-in-Or.new.table B r c.new-pair-in-Or.ensures (stop u _ _ r pr.0 pr.1 c.in_err-joined-in-Or.ensures)))
+    (at_pair c.args.self.now.job.now (g.R.Register.meaning c.args.self.now.register.now) c.args.self.now.span c.args.table.now c.joined-in-Or.new.table B r c.new-pair-in-Or.ensures (stop u _ _ r pr.0 pr.1 c.in_err-joined-in-Or.ensures)))
 
 pub node-returns-in_ok-joined-in-Or : goal.node-returns-in_ok-joined-in-Or
 node-returns-in_ok-joined-in-Or g t c =
-    let N : ℕ = ids_of c.args.job.now in
-    let S : Facts = facts_of (g.R.Register.meaning c.args.register.now) in
-    let D : ℕ = c.args.span.hours in
-    let nodes : List Node = nodes_of c.args.job.now in
+    let N : ℕ = ids_of c.args.self.now.job.now in
+    let S : Facts = facts_of (g.R.Register.meaning c.args.self.now.register.now) in
+    let D : ℕ = c.args.self.now.span.hours in
+    let nodes : List Node = nodes_of c.args.self.now.job.now in
     let T0 : List Part = vec_items c.args.table.now.items in
     let k : ℕ = c.args.number in
     let B : Binding = c.args.binding in
@@ -220,14 +220,14 @@ node-returns-in_ok-joined-in-Or g t c =
     let r : Result ℕ Full = Ok c.in_ok-joined-in-Or.field-0 in
     at-goal N S D 4096 T0 u B r (sym tree)
     (walk-or N S D 4096 T0 u k B r (goal_of_node nodes c.in-Or.left) (goal_of_node nodes c.in-Or.right)
-    (at_pair c.args.job.now (g.R.Register.meaning c.args.register.now) c.args.span c.args.table.now c.joined-in-Or.new.table B r c.new-pair-in-Or.ensures c.in_ok-joined-in-Or.ensures))
+    (at_pair c.args.self.now.job.now (g.R.Register.meaning c.args.self.now.register.now) c.args.self.now.span c.args.table.now c.joined-in-Or.new.table B r c.new-pair-in-Or.ensures c.in_ok-joined-in-Or.ensures))
 
 pub node-returns-in_err-waiting-in-Next : goal.node-returns-in_err-waiting-in-Next
 node-returns-in_err-waiting-in-Next g t c =
-    let N : ℕ = ids_of c.args.job.now in
-    let S : Facts = facts_of (g.R.Register.meaning c.args.register.now) in
-    let D : ℕ = c.args.span.hours in
-    let nodes : List Node = nodes_of c.args.job.now in
+    let N : ℕ = ids_of c.args.self.now.job.now in
+    let S : Facts = facts_of (g.R.Register.meaning c.args.self.now.register.now) in
+    let D : ℕ = c.args.self.now.span.hours in
+    let nodes : List Node = nodes_of c.args.self.now.job.now in
     let T0 : List Part = vec_items c.args.table.now.items in
     let k : ℕ = c.args.number in
     let B : Binding = c.args.binding in
@@ -241,10 +241,10 @@ node-returns-in_err-waiting-in-Next g t c =
 
 pub node-returns-in_ok-waiting-in-Next : goal.node-returns-in_ok-waiting-in-Next
 node-returns-in_ok-waiting-in-Next g t c =
-    let N : ℕ = ids_of c.args.job.now in
-    let S : Facts = facts_of (g.R.Register.meaning c.args.register.now) in
-    let D : ℕ = c.args.span.hours in
-    let nodes : List Node = nodes_of c.args.job.now in
+    let N : ℕ = ids_of c.args.self.now.job.now in
+    let S : Facts = facts_of (g.R.Register.meaning c.args.self.now.register.now) in
+    let D : ℕ = c.args.self.now.span.hours in
+    let nodes : List Node = nodes_of c.args.self.now.job.now in
     let T0 : List Part = vec_items c.args.table.now.items in
     let k : ℕ = c.args.number in
     let B : Binding = c.args.binding in
@@ -257,10 +257,10 @@ node-returns-in_ok-waiting-in-Next g t c =
 
 pub node-returns-in_err-until-in-Until : goal.node-returns-in_err-until-in-Until
 node-returns-in_err-until-in-Until g t c =
-    let N : ℕ = ids_of c.args.job.now in
-    let S : Facts = facts_of (g.R.Register.meaning c.args.register.now) in
-    let D : ℕ = c.args.span.hours in
-    let nodes : List Node = nodes_of c.args.job.now in
+    let N : ℕ = ids_of c.args.self.now.job.now in
+    let S : Facts = facts_of (g.R.Register.meaning c.args.self.now.register.now) in
+    let D : ℕ = c.args.self.now.span.hours in
+    let nodes : List Node = nodes_of c.args.self.now.job.now in
     let T0 : List Part = vec_items c.args.table.now.items in
     let k : ℕ = c.args.number in
     let B : Binding = c.args.binding in
@@ -269,14 +269,14 @@ node-returns-in_err-until-in-Until g t c =
     let r : Result ℕ Full = c.from_residual-in_err-until-in-Until.result in
     let pr = err_from_is_err_and r c.from_residual-in_err-until-in-Until.ensures.1 in
     at-goal N S D 4096 T0 u B r (sym tree)
-    (at_wait c.args.job.now (g.R.Register.meaning c.args.register.now) c.args.span c.args.table.now c.until.new.table B r c.new-wait.ensures (stop u _ _ r pr.0 pr.1 c.in_err-until-in-Until.ensures))
+    (at_wait c.args.self.now.job.now (g.R.Register.meaning c.args.self.now.register.now) c.args.self.now.span c.args.table.now c.until.new.table B r c.new-wait.ensures (stop u _ _ r pr.0 pr.1 c.in_err-until-in-Until.ensures))
 
 pub node-returns-in_ok-until-in-Until : goal.node-returns-in_ok-until-in-Until
 node-returns-in_ok-until-in-Until g t c =
-    let N : ℕ = ids_of c.args.job.now in
-    let S : Facts = facts_of (g.R.Register.meaning c.args.register.now) in
-    let D : ℕ = c.args.span.hours in
-    let nodes : List Node = nodes_of c.args.job.now in
+    let N : ℕ = ids_of c.args.self.now.job.now in
+    let S : Facts = facts_of (g.R.Register.meaning c.args.self.now.register.now) in
+    let D : ℕ = c.args.self.now.span.hours in
+    let nodes : List Node = nodes_of c.args.self.now.job.now in
     let T0 : List Part = vec_items c.args.table.now.items in
     let k : ℕ = c.args.number in
     let B : Binding = c.args.binding in
@@ -284,14 +284,14 @@ node-returns-in_ok-until-in-Until g t c =
     let u : List Part = vec_items c.until.new.table.items in
     let r : Result ℕ Full = Ok c.in_ok-until-in-Until.field-0 in
     at-goal N S D 4096 T0 u B r (sym tree)
-    (at_wait c.args.job.now (g.R.Register.meaning c.args.register.now) c.args.span c.args.table.now c.until.new.table B r c.new-wait.ensures c.in_ok-until-in-Until.ensures)
+    (at_wait c.args.self.now.job.now (g.R.Register.meaning c.args.self.now.register.now) c.args.self.now.span c.args.table.now c.until.new.table B r c.new-wait.ensures c.in_ok-until-in-Until.ensures)
 
 pub node-returns-in_err-quantified-in-ForAll : goal.node-returns-in_err-quantified-in-ForAll
 node-returns-in_err-quantified-in-ForAll g t c =
-    let N : ℕ = ids_of c.args.job.now in
-    let S : Facts = facts_of (g.R.Register.meaning c.args.register.now) in
-    let D : ℕ = c.args.span.hours in
-    let nodes : List Node = nodes_of c.args.job.now in
+    let N : ℕ = ids_of c.args.self.now.job.now in
+    let S : Facts = facts_of (g.R.Register.meaning c.args.self.now.register.now) in
+    let D : ℕ = c.args.self.now.span.hours in
+    let nodes : List Node = nodes_of c.args.self.now.job.now in
     let T0 : List Part = vec_items c.args.table.now.items in
     let k : ℕ = c.args.number in
     let B : Binding = c.args.binding in
@@ -301,14 +301,14 @@ node-returns-in_err-quantified-in-ForAll g t c =
     let pr = err_from_is_err_and r c.from_residual-in_err-quantified-in-ForAll.ensures.1 in
     at-goal N S D 4096 T0 u B r (sym tree)
     (walk-all N S D 4096 T0 u k B r c.in-ForAll.variable c.in-ForAll.bound (goal_of_node nodes c.in-ForAll.body)
-    (at-range c.args.job.now (g.R.Register.meaning c.args.register.now) c.args.span c.args.table.now c.quantified.new.table B r c.new-range.ensures (stop u _ _ r pr.0 pr.1 c.in_err-quantified-in-ForAll.ensures)))
+    (at-range c.args.self.now.job.now (g.R.Register.meaning c.args.self.now.register.now) c.args.self.now.span c.args.table.now c.quantified.new.table B r c.new-range.ensures (stop u _ _ r pr.0 pr.1 c.in_err-quantified-in-ForAll.ensures)))
 
 pub node-returns-in_ok-quantified-in-ForAll : goal.node-returns-in_ok-quantified-in-ForAll
 node-returns-in_ok-quantified-in-ForAll g t c =
-    let N : ℕ = ids_of c.args.job.now in
-    let S : Facts = facts_of (g.R.Register.meaning c.args.register.now) in
-    let D : ℕ = c.args.span.hours in
-    let nodes : List Node = nodes_of c.args.job.now in
+    let N : ℕ = ids_of c.args.self.now.job.now in
+    let S : Facts = facts_of (g.R.Register.meaning c.args.self.now.register.now) in
+    let D : ℕ = c.args.self.now.span.hours in
+    let nodes : List Node = nodes_of c.args.self.now.job.now in
     let T0 : List Part = vec_items c.args.table.now.items in
     let k : ℕ = c.args.number in
     let B : Binding = c.args.binding in
@@ -317,14 +317,14 @@ node-returns-in_ok-quantified-in-ForAll g t c =
     let r : Result ℕ Full = Ok c.in_ok-quantified-in-ForAll.field-0 in
     at-goal N S D 4096 T0 u B r (sym tree)
     (walk-all N S D 4096 T0 u k B r c.in-ForAll.variable c.in-ForAll.bound (goal_of_node nodes c.in-ForAll.body)
-    (at-range c.args.job.now (g.R.Register.meaning c.args.register.now) c.args.span c.args.table.now c.quantified.new.table B r c.new-range.ensures c.in_ok-quantified-in-ForAll.ensures))
+    (at-range c.args.self.now.job.now (g.R.Register.meaning c.args.self.now.register.now) c.args.self.now.span c.args.table.now c.quantified.new.table B r c.new-range.ensures c.in_ok-quantified-in-ForAll.ensures))
 
 pub node-returns-in_err-quantified-in-Exists : goal.node-returns-in_err-quantified-in-Exists
 node-returns-in_err-quantified-in-Exists g t c =
-    let N : ℕ = ids_of c.args.job.now in
-    let S : Facts = facts_of (g.R.Register.meaning c.args.register.now) in
-    let D : ℕ = c.args.span.hours in
-    let nodes : List Node = nodes_of c.args.job.now in
+    let N : ℕ = ids_of c.args.self.now.job.now in
+    let S : Facts = facts_of (g.R.Register.meaning c.args.self.now.register.now) in
+    let D : ℕ = c.args.self.now.span.hours in
+    let nodes : List Node = nodes_of c.args.self.now.job.now in
     let T0 : List Part = vec_items c.args.table.now.items in
     let k : ℕ = c.args.number in
     let B : Binding = c.args.binding in
@@ -334,14 +334,14 @@ node-returns-in_err-quantified-in-Exists g t c =
     let pr = err_from_is_err_and r c.from_residual-in_err-quantified-in-Exists.ensures.1 in
     at-goal N S D 4096 T0 u B r (sym tree)
     (walk-exists N S D 4096 T0 u k B r c.in-Exists.variable c.in-Exists.bound (goal_of_node nodes c.in-Exists.body)
-    (at-range c.args.job.now (g.R.Register.meaning c.args.register.now) c.args.span c.args.table.now c.quantified-in-Exists.new.table B r c.new-range-in-Exists.ensures (stop u _ _ r pr.0 pr.1 c.in_err-quantified-in-Exists.ensures)))
+    (at-range c.args.self.now.job.now (g.R.Register.meaning c.args.self.now.register.now) c.args.self.now.span c.args.table.now c.quantified-in-Exists.new.table B r c.new-range-in-Exists.ensures (stop u _ _ r pr.0 pr.1 c.in_err-quantified-in-Exists.ensures)))
 
 pub node-returns-in_ok-quantified-in-Exists : goal.node-returns-in_ok-quantified-in-Exists
 node-returns-in_ok-quantified-in-Exists g t c =
-    let N : ℕ = ids_of c.args.job.now in
-    let S : Facts = facts_of (g.R.Register.meaning c.args.register.now) in
-    let D : ℕ = c.args.span.hours in
-    let nodes : List Node = nodes_of c.args.job.now in
+    let N : ℕ = ids_of c.args.self.now.job.now in
+    let S : Facts = facts_of (g.R.Register.meaning c.args.self.now.register.now) in
+    let D : ℕ = c.args.self.now.span.hours in
+    let nodes : List Node = nodes_of c.args.self.now.job.now in
     let T0 : List Part = vec_items c.args.table.now.items in
     let k : ℕ = c.args.number in
     let B : Binding = c.args.binding in
@@ -350,14 +350,14 @@ node-returns-in_ok-quantified-in-Exists g t c =
     let r : Result ℕ Full = Ok c.in_ok-quantified-in-Exists.field-0 in
     at-goal N S D 4096 T0 u B r (sym tree)
     (walk-exists N S D 4096 T0 u k B r c.in-Exists.variable c.in-Exists.bound (goal_of_node nodes c.in-Exists.body)
-    (at-range c.args.job.now (g.R.Register.meaning c.args.register.now) c.args.span c.args.table.now c.quantified-in-Exists.new.table B r c.new-range-in-Exists.ensures c.in_ok-quantified-in-Exists.ensures))
+    (at-range c.args.self.now.job.now (g.R.Register.meaning c.args.self.now.register.now) c.args.self.now.span c.args.table.now c.quantified-in-Exists.new.table B r c.new-range-in-Exists.ensures c.in_ok-quantified-in-Exists.ensures))
 
 pub negated-returns-in_err-p : goal.negated-returns-in_err-p
 negated-returns-in_err-p g t c =
-    let N : ℕ = ids_of c.args.job.now in
-    let S : Facts = facts_of (g.R.Register.meaning c.args.register.now) in
-    let D : ℕ = c.args.span.hours in
-    let nodes : List Node = nodes_of c.args.job.now in
+    let N : ℕ = ids_of c.args.self.now.job.now in
+    let S : Facts = facts_of (g.R.Register.meaning c.args.self.now.register.now) in
+    let D : ℕ = c.args.self.now.span.hours in
+    let nodes : List Node = nodes_of c.args.self.now.job.now in
     let T0 : List Part = vec_items c.args.table.now.items in
     let φ : Goal = goal_of_node nodes c.args.number in
     let B = c.args.binding in
@@ -368,10 +368,10 @@ negated-returns-in_err-p g t c =
 
 pub negated-returns : goal.negated-returns
 negated-returns g t c =
-    let N : ℕ = ids_of c.args.job.now in
-    let S : Facts = facts_of (g.R.Register.meaning c.args.register.now) in
-    let D : ℕ = c.args.span.hours in
-    let nodes : List Node = nodes_of c.args.job.now in
+    let N : ℕ = ids_of c.args.self.now.job.now in
+    let S : Facts = facts_of (g.R.Register.meaning c.args.self.now.register.now) in
+    let D : ℕ = c.args.self.now.span.hours in
+    let nodes : List Node = nodes_of c.args.self.now.job.now in
     let T0 : List Part = vec_items c.args.table.now.items in
     let u : List Part = vec_items c.node.new.table.items in
     let v : List Part = vec_items c.negate.new.self.items in
@@ -380,10 +380,10 @@ negated-returns g t c =
 
 pub joined-returns-in_err-p : goal.joined-returns-in_err-p
 joined-returns-in_err-p g t c =
-    let N : ℕ = ids_of c.args.job.now in
-    let S : Facts = facts_of (g.R.Register.meaning c.args.register.now) in
-    let D : ℕ = c.args.span.hours in
-    let nodes : List Node = nodes_of c.args.job.now in
+    let N : ℕ = ids_of c.args.self.now.job.now in
+    let S : Facts = facts_of (g.R.Register.meaning c.args.self.now.register.now) in
+    let D : ℕ = c.args.self.now.span.hours in
+    let nodes : List Node = nodes_of c.args.self.now.job.now in
     let T0 : List Part = vec_items c.args.table.now.items in
     let φ : Goal = goal_of_node nodes c.args.pair.left in
     let ψ : Goal = goal_of_node nodes c.args.pair.right in
@@ -398,10 +398,10 @@ joined-returns-in_err-p g t c =
 
 pub joined-returns-in_err-q : goal.joined-returns-in_err-q
 joined-returns-in_err-q g t c =
-    let N : ℕ = ids_of c.args.job.now in
-    let S : Facts = facts_of (g.R.Register.meaning c.args.register.now) in
-    let D : ℕ = c.args.span.hours in
-    let nodes : List Node = nodes_of c.args.job.now in
+    let N : ℕ = ids_of c.args.self.now.job.now in
+    let S : Facts = facts_of (g.R.Register.meaning c.args.self.now.register.now) in
+    let D : ℕ = c.args.self.now.span.hours in
+    let nodes : List Node = nodes_of c.args.self.now.job.now in
     let T0 : List Part = vec_items c.args.table.now.items in
     let φ : Goal = goal_of_node nodes c.args.pair.left in
     let ψ : Goal = goal_of_node nodes c.args.pair.right in
@@ -417,10 +417,10 @@ joined-returns-in_err-q g t c =
 
 pub joined-returns : goal.joined-returns
 joined-returns g t c =
-    let N : ℕ = ids_of c.args.job.now in
-    let S : Facts = facts_of (g.R.Register.meaning c.args.register.now) in
-    let D : ℕ = c.args.span.hours in
-    let nodes : List Node = nodes_of c.args.job.now in
+    let N : ℕ = ids_of c.args.self.now.job.now in
+    let S : Facts = facts_of (g.R.Register.meaning c.args.self.now.register.now) in
+    let D : ℕ = c.args.self.now.span.hours in
+    let nodes : List Node = nodes_of c.args.self.now.job.now in
     let T0 : List Part = vec_items c.args.table.now.items in
     let φ : Goal = goal_of_node nodes c.args.pair.left in
     let ψ : Goal = goal_of_node nodes c.args.pair.right in
@@ -437,10 +437,10 @@ joined-returns g t c =
 
 pub until-returns-in_err-p : goal.until-returns-in_err-p
 until-returns-in_err-p g t c =
-    let N : ℕ = ids_of c.args.job.now in
-    let S : Facts = facts_of (g.R.Register.meaning c.args.register.now) in
-    let D : ℕ = c.args.span.hours in
-    let nodes : List Node = nodes_of c.args.job.now in
+    let N : ℕ = ids_of c.args.self.now.job.now in
+    let S : Facts = facts_of (g.R.Register.meaning c.args.self.now.register.now) in
+    let D : ℕ = c.args.self.now.span.hours in
+    let nodes : List Node = nodes_of c.args.self.now.job.now in
     let T0 : List Part = vec_items c.args.table.now.items in
     let k : ℕ = c.args.wait.node in
     let e = c.args.wait.ends in
@@ -454,10 +454,10 @@ until-returns-in_err-p g t c =
 
 pub until-returns-in_err-later : goal.until-returns-in_err-later
 until-returns-in_err-later g t c =
-    let N : ℕ = ids_of c.args.job.now in
-    let S : Facts = facts_of (g.R.Register.meaning c.args.register.now) in
-    let D : ℕ = c.args.span.hours in
-    let nodes : List Node = nodes_of c.args.job.now in
+    let N : ℕ = ids_of c.args.self.now.job.now in
+    let S : Facts = facts_of (g.R.Register.meaning c.args.self.now.register.now) in
+    let D : ℕ = c.args.self.now.span.hours in
+    let nodes : List Node = nodes_of c.args.self.now.job.now in
     let T0 : List Part = vec_items c.args.table.now.items in
     let k : ℕ = c.args.wait.node in
     let e = c.args.wait.ends in
@@ -471,10 +471,10 @@ until-returns-in_err-later g t c =
 
 pub until-returns-in_err-q : goal.until-returns-in_err-q
 until-returns-in_err-q g t c =
-    let N : ℕ = ids_of c.args.job.now in
-    let S : Facts = facts_of (g.R.Register.meaning c.args.register.now) in
-    let D : ℕ = c.args.span.hours in
-    let nodes : List Node = nodes_of c.args.job.now in
+    let N : ℕ = ids_of c.args.self.now.job.now in
+    let S : Facts = facts_of (g.R.Register.meaning c.args.self.now.register.now) in
+    let D : ℕ = c.args.self.now.span.hours in
+    let nodes : List Node = nodes_of c.args.self.now.job.now in
     let T0 : List Part = vec_items c.args.table.now.items in
     let k : ℕ = c.args.wait.node in
     let e = c.args.wait.ends in
@@ -488,10 +488,10 @@ until-returns-in_err-q g t c =
 
 pub until-returns-then-wait-gt0 : goal.until-returns-then-wait-gt0
 until-returns-then-wait-gt0 g t c =
-    let N : ℕ = ids_of c.args.job.now in
-    let S : Facts = facts_of (g.R.Register.meaning c.args.register.now) in
-    let D : ℕ = c.args.span.hours in
-    let nodes : List Node = nodes_of c.args.job.now in
+    let N : ℕ = ids_of c.args.self.now.job.now in
+    let S : Facts = facts_of (g.R.Register.meaning c.args.self.now.register.now) in
+    let D : ℕ = c.args.self.now.span.hours in
+    let nodes : List Node = nodes_of c.args.self.now.job.now in
     let T0 : List Part = vec_items c.args.table.now.items in
     let k : ℕ = c.args.wait.node in
     let e = c.args.wait.ends in
@@ -504,10 +504,10 @@ until-returns-then-wait-gt0 g t c =
 
 pub until-returns-in_err-reached : goal.until-returns-in_err-reached
 until-returns-in_err-reached g t c =
-    let N : ℕ = ids_of c.args.job.now in
-    let S : Facts = facts_of (g.R.Register.meaning c.args.register.now) in
-    let D : ℕ = c.args.span.hours in
-    let nodes : List Node = nodes_of c.args.job.now in
+    let N : ℕ = ids_of c.args.self.now.job.now in
+    let S : Facts = facts_of (g.R.Register.meaning c.args.self.now.register.now) in
+    let D : ℕ = c.args.self.now.span.hours in
+    let nodes : List Node = nodes_of c.args.self.now.job.now in
     let T0 : List Part = vec_items c.args.table.now.items in
     let k : ℕ = c.args.wait.node in
     let e = c.args.wait.ends in
@@ -521,10 +521,10 @@ until-returns-in_err-reached g t c =
 
 pub until-returns : goal.until-returns
 until-returns g t c =
-    let N : ℕ = ids_of c.args.job.now in
-    let S : Facts = facts_of (g.R.Register.meaning c.args.register.now) in
-    let D : ℕ = c.args.span.hours in
-    let nodes : List Node = nodes_of c.args.job.now in
+    let N : ℕ = ids_of c.args.self.now.job.now in
+    let S : Facts = facts_of (g.R.Register.meaning c.args.self.now.register.now) in
+    let D : ℕ = c.args.self.now.span.hours in
+    let nodes : List Node = nodes_of c.args.self.now.job.now in
     let T0 : List Part = vec_items c.args.table.now.items in
     let k : ℕ = c.args.wait.node in
     let e = c.args.wait.ends in
@@ -538,10 +538,10 @@ until-returns g t c =
 
 pub quantified-returns-in_err-so_far : goal.quantified-returns-in_err-so_far
 quantified-returns-in_err-so_far g t c =
-    let N : ℕ = ids_of c.args.job.now in
-    let S : Facts = facts_of (g.R.Register.meaning c.args.register.now) in
-    let D : ℕ = c.args.span.hours in
-    let nodes : List Node = nodes_of c.args.job.now in
+    let N : ℕ = ids_of c.args.self.now.job.now in
+    let S : Facts = facts_of (g.R.Register.meaning c.args.self.now.register.now) in
+    let D : ℕ = c.args.self.now.span.hours in
+    let nodes : List Node = nodes_of c.args.self.now.job.now in
     let T0 : List Part = vec_items c.args.table.now.items in
     let by = c.args.range.by in
     let v = c.args.range.variable in
@@ -555,10 +555,10 @@ quantified-returns-in_err-so_far g t c =
 
 pub quantified-loop-id-init : goal.quantified-loop-id-init
 quantified-loop-id-init g t c =
-    let N : ℕ = ids_of c.args.job.now in
-    let S : Facts = facts_of (g.R.Register.meaning c.args.register.now) in
-    let D : ℕ = c.args.span.hours in
-    let nodes : List Node = nodes_of c.args.job.now in
+    let N : ℕ = ids_of c.args.self.now.job.now in
+    let S : Facts = facts_of (g.R.Register.meaning c.args.self.now.register.now) in
+    let D : ℕ = c.args.self.now.span.hours in
+    let nodes : List Node = nodes_of c.args.self.now.job.now in
     let T0 : List Part = vec_items c.args.table.now.items in
     let by = c.args.range.by in
     let v = c.args.range.variable in
@@ -571,10 +571,10 @@ quantified-loop-id-init g t c =
 
 pub quantified-returns-in_err-p : goal.quantified-returns-in_err-p
 quantified-returns-in_err-p g t c =
-    let N : ℕ = ids_of c.args.job.now in
-    let S : Facts = facts_of (g.R.Register.meaning c.args.register.now) in
-    let D : ℕ = c.args.span.hours in
-    let nodes : List Node = nodes_of c.args.job.now in
+    let N : ℕ = ids_of c.args.self.now.job.now in
+    let S : Facts = facts_of (g.R.Register.meaning c.args.self.now.register.now) in
+    let D : ℕ = c.args.self.now.span.hours in
+    let nodes : List Node = nodes_of c.args.self.now.job.now in
     let T0 : List Part = vec_items c.args.table.now.items in
     let by = c.args.range.by in
     let v = c.args.range.variable in
@@ -591,10 +591,10 @@ quantified-returns-in_err-p g t c =
 
 pub quantified-returns-in_err-so_far-2 : goal.quantified-returns-in_err-so_far-2
 quantified-returns-in_err-so_far-2 g t c =
-    let N : ℕ = ids_of c.args.job.now in
-    let S : Facts = facts_of (g.R.Register.meaning c.args.register.now) in
-    let D : ℕ = c.args.span.hours in
-    let nodes : List Node = nodes_of c.args.job.now in
+    let N : ℕ = ids_of c.args.self.now.job.now in
+    let S : Facts = facts_of (g.R.Register.meaning c.args.self.now.register.now) in
+    let D : ℕ = c.args.self.now.span.hours in
+    let nodes : List Node = nodes_of c.args.self.now.job.now in
     let T0 : List Part = vec_items c.args.table.now.items in
     let by = c.args.range.by in
     let v = c.args.range.variable in
@@ -612,10 +612,10 @@ quantified-returns-in_err-so_far-2 g t c =
 
 pub quantified-loop-id-preserved : goal.quantified-loop-id-preserved
 quantified-loop-id-preserved g t c =
-    let N : ℕ = ids_of c.args.job.now in
-    let S : Facts = facts_of (g.R.Register.meaning c.args.register.now) in
-    let D : ℕ = c.args.span.hours in
-    let nodes : List Node = nodes_of c.args.job.now in
+    let N : ℕ = ids_of c.args.self.now.job.now in
+    let S : Facts = facts_of (g.R.Register.meaning c.args.self.now.register.now) in
+    let D : ℕ = c.args.self.now.span.hours in
+    let nodes : List Node = nodes_of c.args.self.now.job.now in
     let T0 : List Part = vec_items c.args.table.now.items in
     let by = c.args.range.by in
     let v = c.args.range.variable in
@@ -639,10 +639,10 @@ quantified-loop-id-preserved g t c =
 
 pub quantified-returns : goal.quantified-returns
 quantified-returns g t c =
-    let N : ℕ = ids_of c.args.job.now in
-    let S : Facts = facts_of (g.R.Register.meaning c.args.register.now) in
-    let D : ℕ = c.args.span.hours in
-    let nodes : List Node = nodes_of c.args.job.now in
+    let N : ℕ = ids_of c.args.self.now.job.now in
+    let S : Facts = facts_of (g.R.Register.meaning c.args.self.now.register.now) in
+    let D : ℕ = c.args.self.now.span.hours in
+    let nodes : List Node = nodes_of c.args.self.now.job.now in
     let T0 : List Part = vec_items c.args.table.now.items in
     let by = c.args.range.by in
     let v = c.args.range.variable in

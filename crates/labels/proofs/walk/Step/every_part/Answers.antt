@@ -7,24 +7,24 @@ use Rattle.labels.specs.Facts.{Facts}
 use Rattle.labels.specs.Held.{facts_of}
 use Rattle.labels.specs.Partwise.{ProgressedTo}
 use Rattle.labels.proofs.Parting.{parts_none, parts-over, parts_more, parts_all, all_stop}
-use Rattle.labels.proofs.each.every_part.Goals as goal
+use Rattle.labels.proofs.walk.Step.every_part.Goals as goal
 
 pub loop-k-init : goal.loop-k-init
 loop-k-init g c =
-    let N : ℕ = ids_of c.args.job.now in
-    let S : Facts = facts_of (g.R.Register.meaning c.args.register.now) in
-    let D : ℕ = c.args.span.hours in
-    let nodes : List Node = nodes_of c.args.job.now in
+    let N : ℕ = ids_of c.args.self.now.job.now in
+    let S : Facts = facts_of (g.R.Register.meaning c.args.self.now.register.now) in
+    let D : ℕ = c.args.self.now.span.hours in
+    let nodes : List Node = nodes_of c.args.self.now.job.now in
     let t : List Part = vec_items c.args.source.now.items in
     let order = c.args.source.now.order in
     (refl, parts_none N S D nodes t order (vec_items c.args.table.now.items), λ j l. absurd (omega arith))
 
 pub returns-in_err-at : goal.returns-in_err-at
 returns-in_err-at g c =
-    let N : ℕ = ids_of c.args.job.now in
-    let S : Facts = facts_of (g.R.Register.meaning c.args.register.now) in
-    let D : ℕ = c.args.span.hours in
-    let nodes : List Node = nodes_of c.args.job.now in
+    let N : ℕ = ids_of c.args.self.now.job.now in
+    let S : Facts = facts_of (g.R.Register.meaning c.args.self.now.register.now) in
+    let D : ℕ = c.args.self.now.span.hours in
+    let nodes : List Node = nodes_of c.args.self.now.job.now in
     let t : List Part = vec_items c.args.source.now.items in
     let order = c.args.source.now.order in
     let d : List Part = vec_items c.loop-k.table.items in
@@ -44,10 +44,10 @@ returns-in_err-at g c =
 
 pub loop-k-preserved : goal.loop-k-preserved
 loop-k-preserved g c =
-    let N : ℕ = ids_of c.args.job.now in
-    let S : Facts = facts_of (g.R.Register.meaning c.args.register.now) in
-    let D : ℕ = c.args.span.hours in
-    let nodes : List Node = nodes_of c.args.job.now in
+    let N : ℕ = ids_of c.args.self.now.job.now in
+    let S : Facts = facts_of (g.R.Register.meaning c.args.self.now.register.now) in
+    let D : ℕ = c.args.self.now.span.hours in
+    let nodes : List Node = nodes_of c.args.self.now.job.now in
     let t : List Part = vec_items c.args.source.now.items in
     let order = c.args.source.now.order in
     let d : List Part = vec_items c.loop-k.table.items in
@@ -63,10 +63,10 @@ loop-k-preserved g c =
 
 pub returns : goal.returns
 returns g c =
-    let N : ℕ = ids_of c.args.job.now in
-    let S : Facts = facts_of (g.R.Register.meaning c.args.register.now) in
-    let D : ℕ = c.args.span.hours in
-    let nodes : List Node = nodes_of c.args.job.now in
+    let N : ℕ = ids_of c.args.self.now.job.now in
+    let S : Facts = facts_of (g.R.Register.meaning c.args.self.now.register.now) in
+    let D : ℕ = c.args.self.now.span.hours in
+    let nodes : List Node = nodes_of c.args.self.now.job.now in
     let t : List Part = vec_items c.args.source.now.items in
     let order = c.args.source.now.order in
     let n : c.loop-k.k ≡ length t = omega (arith, c.len-k-end.ensures) in

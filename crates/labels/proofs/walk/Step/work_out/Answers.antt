@@ -13,15 +13,15 @@ use Rattle.labels.specs.Held.{facts_of}
 use Rattle.labels.specs.LabelCalls.{label_of}
 use Rattle.labels.proofs.Growing.{growth_tells-size, growth_tells-work}
 use Rattle.labels.proofs.Labelled.{only_grown, only_subset}
-use Rattle.labels.proofs.progress.work_out.Goals as goal
+use Rattle.labels.proofs.walk.Step.work_out.Goals as goal
 
 pub returns-in-Err : goal.returns-in-Err
 unfolding label_of
 returns-in-Err g c =
-    let N : ℕ = ids_of c.args.job.now in
-    let S : Facts = facts_of (g.R.Register.meaning c.args.register.now) in
-    let D : ℕ = c.args.span.hours in
-    let nodes : List Node = nodes_of c.args.job.now in
+    let N : ℕ = ids_of c.args.self.now.job.now in
+    let S : Facts = facts_of (g.R.Register.meaning c.args.self.now.register.now) in
+    let D : ℕ = c.args.self.now.span.hours in
+    let nodes : List Node = nodes_of c.args.self.now.job.now in
     let l = c.args.label.now in
     let t : List Part = vec_items l.table.items in
     let old : List Part = vec_items c.clear.new.self.items in
@@ -31,10 +31,10 @@ returns-in-Err g c =
 
 pub mark-requires : goal.mark-requires
 mark-requires g c =
-    let N : ℕ = ids_of c.args.job.now in
-    let S : Facts = facts_of (g.R.Register.meaning c.args.register.now) in
-    let D : ℕ = c.args.span.hours in
-    let nodes : List Node = nodes_of c.args.job.now in
+    let N : ℕ = ids_of c.args.self.now.job.now in
+    let S : Facts = facts_of (g.R.Register.meaning c.args.self.now.register.now) in
+    let D : ℕ = c.args.self.now.span.hours in
+    let nodes : List Node = nodes_of c.args.self.now.job.now in
     let l = c.args.label.now in
     let t : List Part = vec_items l.table.items in
     let old : List Part = vec_items c.clear.new.self.items in
@@ -56,10 +56,10 @@ mark-requires g c =
 
 pub copy-requires : goal.copy-requires
 copy-requires g c =
-    let N : ℕ = ids_of c.args.job.now in
-    let S : Facts = facts_of (g.R.Register.meaning c.args.register.now) in
-    let D : ℕ = c.args.span.hours in
-    let nodes : List Node = nodes_of c.args.job.now in
+    let N : ℕ = ids_of c.args.self.now.job.now in
+    let S : Facts = facts_of (g.R.Register.meaning c.args.self.now.register.now) in
+    let D : ℕ = c.args.self.now.span.hours in
+    let nodes : List Node = nodes_of c.args.self.now.job.now in
     let l = c.args.label.now in
     let t : List Part = vec_items l.table.items in
     let old : List Part = vec_items c.clear.new.self.items in
@@ -83,10 +83,10 @@ copy-requires g c =
 pub returns-in-Err-copy : goal.returns-in-Err-copy
 unfolding label_of
 returns-in-Err-copy g c =
-    let N : ℕ = ids_of c.args.job.now in
-    let S : Facts = facts_of (g.R.Register.meaning c.args.register.now) in
-    let D : ℕ = c.args.span.hours in
-    let nodes : List Node = nodes_of c.args.job.now in
+    let N : ℕ = ids_of c.args.self.now.job.now in
+    let S : Facts = facts_of (g.R.Register.meaning c.args.self.now.register.now) in
+    let D : ℕ = c.args.self.now.span.hours in
+    let nodes : List Node = nodes_of c.args.self.now.job.now in
     let l = c.args.label.now in
     let t : List Part = vec_items l.table.items in
     let old : List Part = vec_items c.clear.new.self.items in
@@ -117,10 +117,10 @@ returns-in-Err-copy g c =
 pub returns-in-Ok-copy : goal.returns-in-Ok-copy
 unfolding label_of
 returns-in-Ok-copy g c =
-    let N : ℕ = ids_of c.args.job.now in
-    let S : Facts = facts_of (g.R.Register.meaning c.args.register.now) in
-    let D : ℕ = c.args.span.hours in
-    let nodes : List Node = nodes_of c.args.job.now in
+    let N : ℕ = ids_of c.args.self.now.job.now in
+    let S : Facts = facts_of (g.R.Register.meaning c.args.self.now.register.now) in
+    let D : ℕ = c.args.self.now.span.hours in
+    let nodes : List Node = nodes_of c.args.self.now.job.now in
     let l = c.args.label.now in
     let t : List Part = vec_items l.table.items in
     let old : List Part = vec_items c.clear.new.self.items in

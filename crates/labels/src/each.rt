@@ -1,4 +1,4 @@
-ghost use Rattle.std.specs.Prelude.{◌≡◌, ◌≤◌, true, length, vec_len};
+ghost use Rattle.std.specs.Prelude.{◌≡◌, ◌≤◌, true, length};
 ghost use Rattle.labels.specs.Goals.{with_ends};
 ghost use Rattle.labels.specs.Table.{before};
 ghost use Rattle.labels.specs.Partwise.{moved};
@@ -40,11 +40,11 @@ impl<'a, R: Register> Step<'a, R> {
         &self,
         table: &mut Table<MOST_WORK>,
         part: Part,
-        to: &Vec<usize>,
+        to: &[usize],
     ) -> Result<usize, Full>
-        requires read { before (length to.now.items) part ≡ true }
-        requires early { before (length (parts_in table.old)) (moved to.now.items part) ≡ true }
-        ensures { WalksPart self.now.job.now (R.Register.meaning self.now.register.now) self.now.span table.old table.new part to.now.items result }
+        requires read { before (length to.now) part ≡ true }
+        requires early { before (length (parts_in table.old)) (moved to.now part) ≡ true }
+        ensures { WalksPart self.now.job.now (R.Register.meaning self.now.register.now) self.now.span table.old table.new part to.now result }
     {
         match part {
             Part::True => table.add(Part::True),
@@ -65,15 +65,13 @@ impl<'a, R: Register> Step<'a, R> {
         &self,
         table: &mut Table<MOST_WORK>,
         source: &Table<LARGEST>,
-        to: &mut Vec<usize>,
+        to: &mut [usize],
     ) -> Result<(), Full>
-        requires { length (parts_in source.now) ≤ vec_len to.old }
-        ensures len { vec_len to.new ≡ vec_len to.old }
-        ensures outcome { WalksAll self.now.job.now (R.Register.meaning self.now.register.now) self.now.span table.old table.new source.now to.new.items result }
+        requires { length (parts_in source.now) ≤ length to.old }
+        ensures { WalksAll self.now.job.now (R.Register.meaning self.now.register.now) self.now.span table.old table.new source.now to.new result }
     {
         for k in 0..source.len() {
-            let at = self.one_part(table, source.part(k), to)?;
-            to[k] = at;
+            to[k] = self.one_part(table, source.part(k), to)?;
         }
         Ok(())
     }

@@ -19,24 +19,17 @@ impl<'a, R: Register> Step<'a, R> {
     fn work_out(&self, label: &Label, workspace: &mut Workspace) -> Result<usize, LabelRefusal>
         ensures { WorksOut self.now.job.now (R.Register.meaning self.now.register.now) self.now.span (label_of label.now) workspace.new.fresh result }
     {
+        let places = workspace.places.as_mut_slice();
+        let marks = workspace.marks.as_mut_slice();
         workspace.work.clear();
-        match self.every_part(&mut workspace.work, &label.table, &mut workspace.places) {
-            Err(_) => return Err(LabelRefusal::TooMuchWork),
-            Ok(_) => {}
-        }
-        let top = workspace.places[label.root];
-        mark(&workspace.work, top, &mut workspace.marks);
+        self.every_part(&mut workspace.work, &label.table, places)
+            .map_err(|_| LabelRefusal::TooMuchWork)?;
+        let top = places[label.root];
+        mark(&workspace.work, top, marks);
         workspace.fresh.clear();
-        match copy(
-            &workspace.work,
-            top,
-            &workspace.marks,
-            &mut workspace.places,
-            &mut workspace.fresh,
-        ) {
-            Err(_) => Err(LabelRefusal::TooLong),
-            Ok(root) => Ok(root),
-        }
+        copy(&workspace.work, top, marks, places, &mut workspace.fresh).map_err(
+            |_| LabelRefusal::TooLong,
+        )
     }
 }
 

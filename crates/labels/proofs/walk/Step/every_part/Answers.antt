@@ -1,4 +1,4 @@
-use Rattle.std.proofs.Common.{◌≡◌, ℕ, ◌<◌, ◌≤◌, List, length, vec_items, vec_len, sym, refl, subst, arith}
+use Rattle.std.proofs.Common.{◌≡◌, ℕ, ◌<◌, ◌≤◌, List, length, vec_items, sym, subst, arith}
 use Rattle.std.proofs.lemmas.Result.{err_from_is_err_and}
 use Rattle.goals.specs.declared.goal.Node.{Node}
 use Rattle.goals.specs.JobView.{ids_of, nodes_of}
@@ -17,10 +17,10 @@ loop-k-init g c =
     let nodes : List Node = nodes_of c.args.self.now.job.now in
     let t : List Part = vec_items c.args.source.now.items in
     let order = c.args.source.now.order in
-    (refl, parts_none N S D nodes t order (vec_items c.args.table.now.items), λ j l. absurd (omega arith))
+    (parts_none N S D nodes t order (vec_items c.args.table.now.items), λ j l. absurd (omega arith))
 
-pub returns-in_err-at : goal.returns-in_err-at
-returns-in_err-at g c =
+pub returns-in_err-to : goal.returns-in_err-to
+returns-in_err-to g c =
     let N : ℕ = ids_of c.args.self.now.job.now in
     let S : Facts = facts_of (g.R.Register.meaning c.args.self.now.register.now) in
     let D : ℕ = c.args.self.now.span.hours in
@@ -29,18 +29,13 @@ returns-in_err-at g c =
     let order = c.args.source.now.order in
     let d : List Part = vec_items c.loop-k.table.items in
     let k : ℕ = c.loop-k.k in
-    let to : List ℕ = vec_items c.loop-k.to in
-    let v : vec_len c.loop-k.to ≡ length to = c.loop-k.to.ok.0 in
-    let long : length t ≤ vec_len c.args.to.now = c.requires in
-    let kept : vec_len c.loop-k.to ≡ vec_len c.args.to.now = c.loop-k.invariant.0 in
+    let to : List ℕ = c.loop-k.to in
+    let long : length t ≤ length c.args.to.now = c.requires in
     let kl : k < length t = omega (arith, c.len-k-end.ensures, c.loop-k-test.true) in
     let pr = err_from_is_err_and c.from_residual.result c.from_residual.ensures.1 in
-    record {
-      len = kept;
-      outcome = all_stop N S D nodes t to (vec_items c.one_part.new.table.items) c.from_residual.result pr.0 pr.1
-          (parts-over N S D nodes t order to d k kl c.loop-k.invariant.2 c.part.result (sym c.part.ensures) c.loop-k.invariant.1
-          c.in_err-at.ensures);
-    }
+    all_stop N S D nodes t to (vec_items c.one_part.new.table.items) c.from_residual.result pr.0 pr.1
+    (parts-over N S D nodes t order to d k kl c.loop-k.invariant.1 c.part.result (sym c.part.ensures) c.loop-k.invariant.0
+    c.in_err-to.ensures)
 
 pub loop-k-preserved : goal.loop-k-preserved
 loop-k-preserved g c =
@@ -52,14 +47,11 @@ loop-k-preserved g c =
     let order = c.args.source.now.order in
     let d : List Part = vec_items c.loop-k.table.items in
     let k : ℕ = c.loop-k.k in
-    let to : List ℕ = vec_items c.loop-k.to in
-    let v : vec_len c.loop-k.to ≡ length to = c.loop-k.to.ok.0 in
-    let long : length t ≤ vec_len c.args.to.now = c.requires in
-    let kept : vec_len c.loop-k.to ≡ vec_len c.args.to.now = c.loop-k.invariant.0 in
+    let to : List ℕ = c.loop-k.to in
+    let long : length t ≤ length c.args.to.now = c.requires in
     let kl : k < length t = omega (arith, c.len-k-end.ensures, c.loop-k-test.true) in
-    let h = parts_more N S D nodes t order to d k kl c.loop-k.invariant.2 c.part.result (sym c.part.ensures) c.in_ok-at.at (omega arith)
-    c.loop-k.invariant.1 c.in_ok-at.ensures in
-    (kept, h.0, h.1)
+    parts_more N S D nodes t order to d k kl c.loop-k.invariant.1 c.part.result (sym c.part.ensures) c.in_ok-to.field-0 (omega arith)
+    c.loop-k.invariant.0 c.in_ok-to.ensures
 
 pub returns : goal.returns
 returns g c =
@@ -71,9 +63,6 @@ returns g c =
     let order = c.args.source.now.order in
     let n : c.loop-k.k ≡ length t = omega (arith, c.len-k-end.ensures) in
     record {
-      len = c.loop-k.invariant.0;
-      outcome = record {
-        grew = parts_all N S D nodes t order c.loop-k.k n c.loop-k.invariant.1;
-        placed = subst (ProgressedTo N S D nodes t (vec_items c.loop-k.to) (vec_items c.loop-k.table.items)) n c.loop-k.invariant.2;
-      };
+      grew = parts_all N S D nodes t order c.loop-k.k n c.loop-k.invariant.0;
+      placed = subst (ProgressedTo N S D nodes t c.loop-k.to (vec_items c.loop-k.table.items)) n c.loop-k.invariant.1;
     }

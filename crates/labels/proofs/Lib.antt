@@ -18,6 +18,7 @@ pub mod Rows
 pub mod Rules
 pub mod Growing
 pub mod Places
+pub mod Joins
 pub mod Calls
 pub mod Parting
 pub mod Copies

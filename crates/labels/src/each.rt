@@ -6,6 +6,7 @@ ghost use Rattle.labels.specs.TableView.{parts_in};
 ghost use Rattle.labels.specs.JobWalks.{node_of, Walks, WalksPart, WalksAll};
 
 use crate::binding::Binding;
+use crate::connective::Connective;
 use crate::label::LARGEST;
 use crate::part::Part;
 use crate::read::node_ref_at;
@@ -55,8 +56,8 @@ impl<'a, R: Register> Step<'a, R> {
                 ends,
             } => self.pending(table, node, binding, ends),
             Part::Not(x) => table.negate(to[x]),
-            Part::And(x, y) => table.conjoin(to[x], to[y]),
-            Part::Or(x, y) => table.disjoin(to[x], to[y]),
+            Part::And(x, y) => table.join(Connective::And, to[x], to[y]),
+            Part::Or(x, y) => table.join(Connective::Or, to[x], to[y]),
         }
     }
 

@@ -218,12 +218,12 @@ impl<'a, R: Register> Step<'a, R> {
     {
         let p = self.node(table, wait.hold, binding)?;
         let later = rest(table, self.span, wait.node, binding, wait.ends)?;
-        let q = table.conjoin(p, later)?;
+        let q = table.join(Connective::And, p, later)?;
         if wait.ends.lower.hours > 0 {
             return Ok(q);
         }
         let reached = self.node(table, wait.reach, binding)?;
-        table.disjoin(reached, q)
+        table.join(Connective::Or, reached, q)
     }
 
     // The progress of a quantifier: the labels of the ids in its range, joined in rising order to the right of the start.

@@ -484,7 +484,7 @@ until-returns-in_err-q g t c =
     let X = progress N S D (until k e φ ψ) B in
     let M = results N S D (until k e φ ψ) B in
     let pr = err_from_is_err_and c.from_residual-in_err-q.result c.from_residual-in_err-q.ensures.1 in
-    stop (vec_items c.conjoin.new.self.items) X M c.from_residual-in_err-q.result pr.0 pr.1 (both-over N S D k e φ ψ B c.in_ok-p.p c.in_ok-later.later c.in_ok-p.ensures c.in_ok-later.ensures c.in_err-q.ensures)
+    stop (vec_items c.join.new.self.items) X M c.from_residual-in_err-q.result pr.0 pr.1 (both-over N S D k e φ ψ B c.in_ok-p.p c.in_ok-later.later c.in_ok-p.ensures c.in_ok-later.ensures c.in_err-q.ensures)
 
 pub until-returns-then-wait-gt0 : goal.until-returns-then-wait-gt0
 until-returns-then-wait-gt0 g t c =
@@ -533,8 +533,8 @@ until-returns g t c =
     let B = c.args.binding in
     let X = progress N S D (until k e φ ψ) B in
     let M = results N S D (until k e φ ψ) B in
-    reaches-it N S D k e φ ψ B c.in_ok-p.p c.in_ok-later.later c.in_ok-p.ensures c.in_ok-later.ensures c.in_ok-q.q c.in_ok-q.ensures c.if-wait-gt0.false 4096 (vec_items c.disjoin.new.self.items) c.in_ok-reached.reached c.disjoin.result
-    c.in_ok-reached.ensures c.disjoin.ensures
+    reaches-it N S D k e φ ψ B c.in_ok-p.p c.in_ok-later.later c.in_ok-p.ensures c.in_ok-later.ensures c.in_ok-q.q c.in_ok-q.ensures c.if-wait-gt0.false 4096 (vec_items c.join-2.new.self.items) c.in_ok-reached.reached c.join-2.result
+    c.in_ok-reached.ensures c.join-2.ensures
 
 pub quantified-returns-in_err-so_far : goal.quantified-returns-in_err-so_far
 quantified-returns-in_err-so_far g t c =

@@ -4,6 +4,7 @@ ghost use Rattle.labels.specs.Chains.{end_number, bucket};
 use crate::part::Part;
 use goals::time::Span;
 
+// A hash of our own, not a `HashMap`: its insert asks for memory, and a step may ask for none.
 // How many buckets a table has.
 pub const BUCKETS: usize = 1024;
 

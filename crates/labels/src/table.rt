@@ -1,4 +1,4 @@
-ghost use Rattle.std.specs.Prelude.{◌≡◌, ℕ, ◌<◌, ◌≤◌, true, false, [], ◌∷◌, length, IfOk, vec_len, vec_capacity, slice_index, slice_index_or};
+ghost use Rattle.std.specs.Prelude.{◌≡◌, ◌≢◌, ℕ, ◌<◌, ◌≤◌, true, [], ◌∷◌, length, IfOk, MatchOption, vec_len, vec_capacity, slice_index_or};
 ghost use Rattle.labels.specs.declared.part.Part.TheVariants.{True};
 ghost use Rattle.labels.specs.Chains.{Latest, Linked, HeadsIn, HeadsOf, FallsIn, FallsOf};
 ghost use Rattle.labels.specs.Table.{composed, label_at, before, InOrder, NoTwins};
@@ -13,11 +13,12 @@ use std::alloc::{AllocError, Global};
 pub struct Full;
 
 // At most LIMIT distinct parts, each behind its own; parts are found by chains, one for each bucket of a hash.
+// A Vec of parts and one of links, not one of pairs: the parts are then a list that every definition reads as it is.
 #[derive(Drop)]
 pub struct Table<const LIMIT: usize> {
     items: Vec<Part>,
-    heads: Vec<usize>,
-    next: Vec<usize>,
+    heads: Vec<Option<usize>>,
+    next: Vec<Option<usize>>,
     ghost room: { LIMIT ≤ vec_capacity items },
     ghost few: { vec_len items ≤ LIMIT },
     ghost order: { InOrder items.items },
@@ -40,7 +41,7 @@ impl<const LIMIT: usize> Table<LIMIT> {
         ensures { IfOk result (λ t. t.items.items ≡ []) }
     {
         let items = Vec::with_capacity(heap, LIMIT)?;
-        let heads = vec![in heap; 0usize; BUCKETS]?;
+        let heads = vec![in heap; None; BUCKETS]?;
         let next = Vec::with_capacity(heap, LIMIT)?;
         Ok(Table { items, heads, next })
     }
@@ -60,20 +61,18 @@ impl<const LIMIT: usize> Table<LIMIT> {
         self.items[place]
     }
 
-    // Where the part stands, or the number of parts.
-    fn find(&self, part: Part) -> usize
-        ensures within { result ≤ length self.now.items.items }
-        ensures there { result < length self.now.items.items → slice_index_or self.now.items.items result True ≡ part }
-        ensures none { length self.now.items.items ≤ result → (k : ℕ) → k < length self.now.items.items → slice_index_or self.now.items.items k True ≡ part → ⊥ }
+    // Where the part stands.
+    fn find(&self, part: Part) -> Option<usize>
+        ensures { MatchOption result ((k : ℕ) → k < length self.now.items.items → slice_index_or self.now.items.items k True ≢ part) (λ k. (k < length self.now.items.items) × (slice_index_or self.now.items.items k True ≡ part)) }
     {
-        let mut at = self.heads[hash(part)];
-        while at > 0 {
-            if self.items[at - 1] == part {
-                return at - 1;
+        let mut link = self.heads[hash(part)];
+        while let Some(at) = link {
+            if self.items[at] == part {
+                return Some(at);
             }
-            at = self.next[at - 1];
+            link = self.next[at];
         }
-        self.items.len()
+        None
     }
 
     // Finds the part or adds it, and tells where it stands.
@@ -81,19 +80,18 @@ impl<const LIMIT: usize> Table<LIMIT> {
         requires { before (length self.old.items.items) part ≡ true }
         ensures { Added LIMIT self.old.items.items self.new.items.items (composed (label_at self.old.items.items) part) result }
     {
-        let n = self.items.len();
-        let at = self.find(part);
-        if at < n {
-            return Ok(at);
+        if let Some(place) = self.find(part) {
+            return Ok(place);
         }
+        let n = self.items.len();
         if n >= LIMIT {
             return Err(Full);
         }
-        let h = hash(part);
-        let last = self.heads[h];
+        let bucket = hash(part);
+        let last = self.heads[bucket];
         self.items.push_reserved(part);
         self.next.push_reserved(last);
-        self.heads[h] = n + 1;
+        self.heads[bucket] = Some(n);
         Ok(n)
     }
 
@@ -103,16 +101,6 @@ impl<const LIMIT: usize> Table<LIMIT> {
     {
         self.items.clear();
         self.next.clear();
-        clear_heads(&mut self.heads);
-    }
-}
-
-fn clear_heads(heads: &mut Vec<usize>)
-    requires { vec_len heads.old ≡ 1024 }
-    ensures len { vec_len heads.new ≡ 1024 }
-    ensures none { (b : ℕ) → slice_index heads.new.items b ≡ 0 }
-{
-    for b in 0..BUCKETS {
-        heads[b] = 0;
+        self.heads.fill(None);
     }
 }

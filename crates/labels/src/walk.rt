@@ -132,7 +132,6 @@ pub struct Step<'a, R> {
 
 impl<'a, R: Register> Step<'a, R> {
     // The progress of a goal node under a binding, at the register's facts, over the span.
-    // An arm is `Ok(..?)` and not the call alone: compiled, a `Result` that is passed on whole is copied slowly.
     #[cycle(joined_negated_node_quantified_until)]
     pub fn node(
         &self,
@@ -143,32 +142,30 @@ impl<'a, R: Register> Step<'a, R> {
         ensures { Walks self.now.job.now (R.Register.meaning self.now.register.now) self.now.span table.old table.new (node_of self.now.job.now number) binding result }
     {
         match *node_ref_at(self.job, number) {
-            Node::True => Ok(table.settle(true)?),
-            Node::Test(atom) => Ok(table.settle(is_fact(self.register, binding, atom))?),
-            Node::Equal(left, right) => Ok(table.settle(
-                binding.value(left) == binding.value(right),
-            )?),
-            Node::Not(x) => Ok(self.negated(table, x, binding)?),
+            Node::True => table.settle(true),
+            Node::Test(atom) => table.settle(is_fact(self.register, binding, atom)),
+            Node::Equal(left, right) => table.settle(binding.value(left) == binding.value(right)),
+            Node::Not(x) => self.negated(table, x, binding),
             Node::And(left, right) => {
                 let pair = Pair::new(Connective::And, number, left, right);
-                Ok(self.joined(table, pair, binding)?)
+                self.joined(table, pair, binding)
             }
             Node::Or(left, right) => {
                 let pair = Pair::new(Connective::Or, number, left, right);
-                Ok(self.joined(table, pair, binding)?)
+                self.joined(table, pair, binding)
             }
-            Node::Next(x) => Ok(waiting(table, self.job, x, binding)?),
+            Node::Next(x) => waiting(table, self.job, x, binding),
             Node::Until(ends, hold, reach) => {
                 let wait = Wait::new(number, ends, hold, reach);
-                Ok(self.until(table, wait, binding)?)
+                self.until(table, wait, binding)
             }
             Node::ForAll(variable, bound, body) => {
                 let range = Range::new(Connective::And, number, variable, bound, body);
-                Ok(self.quantified(table, range, binding)?)
+                self.quantified(table, range, binding)
             }
             Node::Exists(variable, bound, body) => {
                 let range = Range::new(Connective::Or, number, variable, bound, body);
-                Ok(self.quantified(table, range, binding)?)
+                self.quantified(table, range, binding)
             }
         }
     }

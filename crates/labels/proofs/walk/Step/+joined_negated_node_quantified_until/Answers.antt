@@ -1,4 +1,4 @@
-use Rattle.std.proofs.Common.{◌≡◌, ℕ, ◌+◌, ◌<◌, eqb, List, ◌∷◌, ◌++◌, Ok, vec_items, Result, sym, ◌∙◌, subst, ap₂, arith}
+use Rattle.std.proofs.Common.{◌≡◌, ℕ, ◌+◌, ◌<◌, eqb, List, ◌∷◌, ◌++◌, vec_items, Result, sym, ◌∙◌, subst, ap₂, arith}
 use Rattle.std.proofs.lemmas.Result.{err_from_is_err_and}
 use Rattle.goals.specs.declared.goal.Node.{Node}
 use Rattle.goals.specs.declared.goal.Node.TheVariants.{True, Test, Equal, Not, And, Or, Next, Until, ForAll, Exists}
@@ -24,8 +24,8 @@ use Rattle.labels.proofs.walk.Step.+joined_negated_node_quantified_until.Goals a
 use Rattle.labels.proofs.walk.Step.+joined_negated_node_quantified_until.Goals.{quantified-then-is_fact+in_ok-p+in_ok-so_far-2, quantified-else-is_fact}
 
 -- the arms of a node: the limit is passed, or the place is told
-pub node-returns-in_err-settle-in-True : goal.node-returns-in_err-settle-in-True
-node-returns-in_err-settle-in-True g t c =
+pub node-returns-in-True : goal.node-returns-in-True
+node-returns-in-True g t c =
     let N : ℕ = ids_of c.args.self.now.job.now in
     let S : Facts = facts_of (g.R.Register.meaning c.args.self.now.register.now) in
     let D : ℕ = c.args.self.now.span.hours in
@@ -35,30 +35,13 @@ node-returns-in_err-settle-in-True g t c =
     let B : Binding = c.args.binding in
     let tree = tree-read nodes k True c.node_ref_at.ensures.value c.node_ref_at.ensures.below c.in-True.is in
     let u : List Part = vec_items c.settle.new.self.items in
-    let r : Result ℕ Full = c.from_residual.result in
-    let pr = err_from_is_err_and r c.from_residual.ensures.1 in
+    let r : Result ℕ Full = c.settle.result in
     at-goal N S D 4096 T0 u B r (sym tree)
     (walk_top N S D 4096 T0 u k B r
-    (stop u _ _ r pr.0 pr.1 c.in_err-settle-in-True.ensures))
+    c.settle.ensures)
 
-pub node-returns-in_ok-settle-in-True : goal.node-returns-in_ok-settle-in-True
-node-returns-in_ok-settle-in-True g t c =
-    let N : ℕ = ids_of c.args.self.now.job.now in
-    let S : Facts = facts_of (g.R.Register.meaning c.args.self.now.register.now) in
-    let D : ℕ = c.args.self.now.span.hours in
-    let nodes : List Node = nodes_of c.args.self.now.job.now in
-    let T0 : List Part = vec_items c.args.table.now.items in
-    let k : ℕ = c.args.number in
-    let B : Binding = c.args.binding in
-    let tree = tree-read nodes k True c.node_ref_at.ensures.value c.node_ref_at.ensures.below c.in-True.is in
-    let u : List Part = vec_items c.settle.new.self.items in
-    let r : Result ℕ Full = Ok c.in_ok-settle-in-True.field-0 in
-    at-goal N S D 4096 T0 u B r (sym tree)
-    (walk_top N S D 4096 T0 u k B r
-    c.in_ok-settle-in-True.ensures)
-
-pub node-returns-in_err-settle-in-Test : goal.node-returns-in_err-settle-in-Test
-node-returns-in_err-settle-in-Test g t c =
+pub node-returns-in-Test : goal.node-returns-in-Test
+node-returns-in-Test g t c =
     let N : ℕ = ids_of c.args.self.now.job.now in
     let S : Facts = facts_of (g.R.Register.meaning c.args.self.now.register.now) in
     let D : ℕ = c.args.self.now.span.hours in
@@ -68,30 +51,13 @@ node-returns-in_err-settle-in-Test g t c =
     let B : Binding = c.args.binding in
     let tree = tree-read nodes k (Test c.in-Test.atom) c.node_ref_at.ensures.value c.node_ref_at.ensures.below c.in-Test.is in
     let u : List Part = vec_items c.settle-in-Test.new.self.items in
-    let r : Result ℕ Full = c.from_residual-in_err-settle-in-Test.result in
-    let pr = err_from_is_err_and r c.from_residual-in_err-settle-in-Test.ensures.1 in
+    let r : Result ℕ Full = c.settle-in-Test.result in
     at-goal N S D 4096 T0 u B r (sym tree)
     (walk-test N S D 4096 T0 u k B r c.in-Test.atom c.is_fact.result c.is_fact.ensures
-    (stop u _ _ r pr.0 pr.1 c.in_err-settle-in-Test.ensures))
+    c.settle-in-Test.ensures)
 
-pub node-returns-in_ok-settle-in-Test : goal.node-returns-in_ok-settle-in-Test
-node-returns-in_ok-settle-in-Test g t c =
-    let N : ℕ = ids_of c.args.self.now.job.now in
-    let S : Facts = facts_of (g.R.Register.meaning c.args.self.now.register.now) in
-    let D : ℕ = c.args.self.now.span.hours in
-    let nodes : List Node = nodes_of c.args.self.now.job.now in
-    let T0 : List Part = vec_items c.args.table.now.items in
-    let k : ℕ = c.args.number in
-    let B : Binding = c.args.binding in
-    let tree = tree-read nodes k (Test c.in-Test.atom) c.node_ref_at.ensures.value c.node_ref_at.ensures.below c.in-Test.is in
-    let u : List Part = vec_items c.settle-in-Test.new.self.items in
-    let r : Result ℕ Full = Ok c.in_ok-settle-in-Test.field-0 in
-    at-goal N S D 4096 T0 u B r (sym tree)
-    (walk-test N S D 4096 T0 u k B r c.in-Test.atom c.is_fact.result c.is_fact.ensures
-    c.in_ok-settle-in-Test.ensures)
-
-pub node-returns-in_err-settle-in-Equal : goal.node-returns-in_err-settle-in-Equal
-node-returns-in_err-settle-in-Equal g t c =
+pub node-returns-in-Equal : goal.node-returns-in-Equal
+node-returns-in-Equal g t c =
     let N : ℕ = ids_of c.args.self.now.job.now in
     let S : Facts = facts_of (g.R.Register.meaning c.args.self.now.register.now) in
     let D : ℕ = c.args.self.now.span.hours in
@@ -101,30 +67,13 @@ node-returns-in_err-settle-in-Equal g t c =
     let B : Binding = c.args.binding in
     let tree = tree-read nodes k (Equal c.in-Equal.left c.in-Equal.right) c.node_ref_at.ensures.value c.node_ref_at.ensures.below c.in-Equal.is in
     let u : List Part = vec_items c.settle-in-Equal.new.self.items in
-    let r : Result ℕ Full = c.from_residual-in_err-settle-in-Equal.result in
-    let pr = err_from_is_err_and r c.from_residual-in_err-settle-in-Equal.ensures.1 in
+    let r : Result ℕ Full = c.settle-in-Equal.result in
     at-goal N S D 4096 T0 u B r (sym tree)
     (walk-equal N S D 4096 T0 u k B r c.in-Equal.left c.in-Equal.right (eqb c.value.result c.value-in-Equal.result) (ap₂ eqb c.value.ensures c.value-in-Equal.ensures)
-    (stop u _ _ r pr.0 pr.1 c.in_err-settle-in-Equal.ensures))
+    c.settle-in-Equal.ensures)
 
-pub node-returns-in_ok-settle-in-Equal : goal.node-returns-in_ok-settle-in-Equal
-node-returns-in_ok-settle-in-Equal g t c =
-    let N : ℕ = ids_of c.args.self.now.job.now in
-    let S : Facts = facts_of (g.R.Register.meaning c.args.self.now.register.now) in
-    let D : ℕ = c.args.self.now.span.hours in
-    let nodes : List Node = nodes_of c.args.self.now.job.now in
-    let T0 : List Part = vec_items c.args.table.now.items in
-    let k : ℕ = c.args.number in
-    let B : Binding = c.args.binding in
-    let tree = tree-read nodes k (Equal c.in-Equal.left c.in-Equal.right) c.node_ref_at.ensures.value c.node_ref_at.ensures.below c.in-Equal.is in
-    let u : List Part = vec_items c.settle-in-Equal.new.self.items in
-    let r : Result ℕ Full = Ok c.in_ok-settle-in-Equal.field-0 in
-    at-goal N S D 4096 T0 u B r (sym tree)
-    (walk-equal N S D 4096 T0 u k B r c.in-Equal.left c.in-Equal.right (eqb c.value.result c.value-in-Equal.result) (ap₂ eqb c.value.ensures c.value-in-Equal.ensures)
-    c.in_ok-settle-in-Equal.ensures)
-
-pub node-returns-in_err-negated-in-Not : goal.node-returns-in_err-negated-in-Not
-node-returns-in_err-negated-in-Not g t c =
+pub node-returns-in-Not : goal.node-returns-in-Not
+node-returns-in-Not g t c =
     let N : ℕ = ids_of c.args.self.now.job.now in
     let S : Facts = facts_of (g.R.Register.meaning c.args.self.now.register.now) in
     let D : ℕ = c.args.self.now.span.hours in
@@ -134,30 +83,13 @@ node-returns-in_err-negated-in-Not g t c =
     let B : Binding = c.args.binding in
     let tree = tree-read nodes k (Not c.in-Not.x) c.node_ref_at.ensures.value c.node_ref_at.ensures.below c.in-Not.is in
     let u : List Part = vec_items c.negated.new.table.items in
-    let r : Result ℕ Full = c.from_residual-in_err-negated-in-Not.result in
-    let pr = err_from_is_err_and r c.from_residual-in_err-negated-in-Not.ensures.1 in
+    let r : Result ℕ Full = c.negated.result in
     at-goal N S D 4096 T0 u B r (sym tree)
     (walk-not N S D 4096 T0 u k B r (goal_of_node nodes c.in-Not.x)
-    (stop u _ _ r pr.0 pr.1 c.in_err-negated-in-Not.ensures))
+    c.negated.ensures)
 
-pub node-returns-in_ok-negated-in-Not : goal.node-returns-in_ok-negated-in-Not
-node-returns-in_ok-negated-in-Not g t c =
-    let N : ℕ = ids_of c.args.self.now.job.now in
-    let S : Facts = facts_of (g.R.Register.meaning c.args.self.now.register.now) in
-    let D : ℕ = c.args.self.now.span.hours in
-    let nodes : List Node = nodes_of c.args.self.now.job.now in
-    let T0 : List Part = vec_items c.args.table.now.items in
-    let k : ℕ = c.args.number in
-    let B : Binding = c.args.binding in
-    let tree = tree-read nodes k (Not c.in-Not.x) c.node_ref_at.ensures.value c.node_ref_at.ensures.below c.in-Not.is in
-    let u : List Part = vec_items c.negated.new.table.items in
-    let r : Result ℕ Full = Ok c.in_ok-negated-in-Not.field-0 in
-    at-goal N S D 4096 T0 u B r (sym tree)
-    (walk-not N S D 4096 T0 u k B r (goal_of_node nodes c.in-Not.x)
-    c.in_ok-negated-in-Not.ensures)
-
-pub node-returns-in_err-joined-in-And : goal.node-returns-in_err-joined-in-And
-node-returns-in_err-joined-in-And g t c =
+pub node-returns-in-And : goal.node-returns-in-And
+node-returns-in-And g t c =
     let N : ℕ = ids_of c.args.self.now.job.now in
     let S : Facts = facts_of (g.R.Register.meaning c.args.self.now.register.now) in
     let D : ℕ = c.args.self.now.span.hours in
@@ -167,30 +99,13 @@ node-returns-in_err-joined-in-And g t c =
     let B : Binding = c.args.binding in
     let tree = tree-read nodes k (And c.in-And.left c.in-And.right) c.node_ref_at.ensures.value c.node_ref_at.ensures.below c.in-And.is in
     let u : List Part = vec_items c.joined.new.table.items in
-    let r : Result ℕ Full = c.from_residual-in_err-joined-in-And.result in
-    let pr = err_from_is_err_and r c.from_residual-in_err-joined-in-And.ensures.1 in
+    let r : Result ℕ Full = c.joined.result in
     at-goal N S D 4096 T0 u B r (sym tree)
     (walk-and N S D 4096 T0 u k B r (goal_of_node nodes c.in-And.left) (goal_of_node nodes c.in-And.right)
-    (at_pair c.args.self.now.job.now (g.R.Register.meaning c.args.self.now.register.now) c.args.self.now.span c.args.table.now c.joined.new.table B r c.new-pair.ensures (stop u _ _ r pr.0 pr.1 c.in_err-joined-in-And.ensures)))
+    (at_pair c.args.self.now.job.now (g.R.Register.meaning c.args.self.now.register.now) c.args.self.now.span c.args.table.now c.joined.new.table B r c.new-pair.ensures c.joined.ensures))
 
-pub node-returns-in_ok-joined-in-And : goal.node-returns-in_ok-joined-in-And
-node-returns-in_ok-joined-in-And g t c =
-    let N : ℕ = ids_of c.args.self.now.job.now in
-    let S : Facts = facts_of (g.R.Register.meaning c.args.self.now.register.now) in
-    let D : ℕ = c.args.self.now.span.hours in
-    let nodes : List Node = nodes_of c.args.self.now.job.now in
-    let T0 : List Part = vec_items c.args.table.now.items in
-    let k : ℕ = c.args.number in
-    let B : Binding = c.args.binding in
-    let tree = tree-read nodes k (And c.in-And.left c.in-And.right) c.node_ref_at.ensures.value c.node_ref_at.ensures.below c.in-And.is in
-    let u : List Part = vec_items c.joined.new.table.items in
-    let r : Result ℕ Full = Ok c.in_ok-joined-in-And.field-0 in
-    at-goal N S D 4096 T0 u B r (sym tree)
-    (walk-and N S D 4096 T0 u k B r (goal_of_node nodes c.in-And.left) (goal_of_node nodes c.in-And.right)
-    (at_pair c.args.self.now.job.now (g.R.Register.meaning c.args.self.now.register.now) c.args.self.now.span c.args.table.now c.joined.new.table B r c.new-pair.ensures c.in_ok-joined-in-And.ensures))
-
-pub node-returns-in_err-joined-in-Or : goal.node-returns-in_err-joined-in-Or
-node-returns-in_err-joined-in-Or g t c =
+pub node-returns-in-Or : goal.node-returns-in-Or
+node-returns-in-Or g t c =
     let N : ℕ = ids_of c.args.self.now.job.now in
     let S : Facts = facts_of (g.R.Register.meaning c.args.self.now.register.now) in
     let D : ℕ = c.args.self.now.span.hours in
@@ -200,30 +115,13 @@ node-returns-in_err-joined-in-Or g t c =
     let B : Binding = c.args.binding in
     let tree = tree-read nodes k (Or c.in-Or.left c.in-Or.right) c.node_ref_at.ensures.value c.node_ref_at.ensures.below c.in-Or.is in
     let u : List Part = vec_items c.joined-in-Or.new.table.items in
-    let r : Result ℕ Full = c.from_residual-in_err-joined-in-Or.result in
-    let pr = err_from_is_err_and r c.from_residual-in_err-joined-in-Or.ensures.1 in
+    let r : Result ℕ Full = c.joined-in-Or.result in
     at-goal N S D 4096 T0 u B r (sym tree)
     (walk-or N S D 4096 T0 u k B r (goal_of_node nodes c.in-Or.left) (goal_of_node nodes c.in-Or.right)
-    (at_pair c.args.self.now.job.now (g.R.Register.meaning c.args.self.now.register.now) c.args.self.now.span c.args.table.now c.joined-in-Or.new.table B r c.new-pair-in-Or.ensures (stop u _ _ r pr.0 pr.1 c.in_err-joined-in-Or.ensures)))
+    (at_pair c.args.self.now.job.now (g.R.Register.meaning c.args.self.now.register.now) c.args.self.now.span c.args.table.now c.joined-in-Or.new.table B r c.new-pair-in-Or.ensures c.joined-in-Or.ensures))
 
-pub node-returns-in_ok-joined-in-Or : goal.node-returns-in_ok-joined-in-Or
-node-returns-in_ok-joined-in-Or g t c =
-    let N : ℕ = ids_of c.args.self.now.job.now in
-    let S : Facts = facts_of (g.R.Register.meaning c.args.self.now.register.now) in
-    let D : ℕ = c.args.self.now.span.hours in
-    let nodes : List Node = nodes_of c.args.self.now.job.now in
-    let T0 : List Part = vec_items c.args.table.now.items in
-    let k : ℕ = c.args.number in
-    let B : Binding = c.args.binding in
-    let tree = tree-read nodes k (Or c.in-Or.left c.in-Or.right) c.node_ref_at.ensures.value c.node_ref_at.ensures.below c.in-Or.is in
-    let u : List Part = vec_items c.joined-in-Or.new.table.items in
-    let r : Result ℕ Full = Ok c.in_ok-joined-in-Or.field-0 in
-    at-goal N S D 4096 T0 u B r (sym tree)
-    (walk-or N S D 4096 T0 u k B r (goal_of_node nodes c.in-Or.left) (goal_of_node nodes c.in-Or.right)
-    (at_pair c.args.self.now.job.now (g.R.Register.meaning c.args.self.now.register.now) c.args.self.now.span c.args.table.now c.joined-in-Or.new.table B r c.new-pair-in-Or.ensures c.in_ok-joined-in-Or.ensures))
-
-pub node-returns-in_err-waiting-in-Next : goal.node-returns-in_err-waiting-in-Next
-node-returns-in_err-waiting-in-Next g t c =
+pub node-returns-in-Next : goal.node-returns-in-Next
+node-returns-in-Next g t c =
     let N : ℕ = ids_of c.args.self.now.job.now in
     let S : Facts = facts_of (g.R.Register.meaning c.args.self.now.register.now) in
     let D : ℕ = c.args.self.now.span.hours in
@@ -233,30 +131,13 @@ node-returns-in_err-waiting-in-Next g t c =
     let B : Binding = c.args.binding in
     let tree = tree-read nodes k (Next c.in-Next.x) c.node_ref_at.ensures.value c.node_ref_at.ensures.below c.in-Next.is in
     let u : List Part = vec_items c.waiting.new.table.items in
-    let r : Result ℕ Full = c.from_residual-in_err-waiting-in-Next.result in
-    let pr = err_from_is_err_and r c.from_residual-in_err-waiting-in-Next.ensures.1 in
+    let r : Result ℕ Full = c.waiting.result in
     at-goal N S D 4096 T0 u B r (sym tree)
     (walk-next N S D 4096 T0 u k B r (goal_of_node nodes c.in-Next.x)
-    (stop u _ _ r pr.0 pr.1 c.in_err-waiting-in-Next.ensures))
+    c.waiting.ensures)
 
-pub node-returns-in_ok-waiting-in-Next : goal.node-returns-in_ok-waiting-in-Next
-node-returns-in_ok-waiting-in-Next g t c =
-    let N : ℕ = ids_of c.args.self.now.job.now in
-    let S : Facts = facts_of (g.R.Register.meaning c.args.self.now.register.now) in
-    let D : ℕ = c.args.self.now.span.hours in
-    let nodes : List Node = nodes_of c.args.self.now.job.now in
-    let T0 : List Part = vec_items c.args.table.now.items in
-    let k : ℕ = c.args.number in
-    let B : Binding = c.args.binding in
-    let tree = tree-read nodes k (Next c.in-Next.x) c.node_ref_at.ensures.value c.node_ref_at.ensures.below c.in-Next.is in
-    let u : List Part = vec_items c.waiting.new.table.items in
-    let r : Result ℕ Full = Ok c.in_ok-waiting-in-Next.field-0 in
-    at-goal N S D 4096 T0 u B r (sym tree)
-    (walk-next N S D 4096 T0 u k B r (goal_of_node nodes c.in-Next.x)
-    c.in_ok-waiting-in-Next.ensures)
-
-pub node-returns-in_err-until-in-Until : goal.node-returns-in_err-until-in-Until
-node-returns-in_err-until-in-Until g t c =
+pub node-returns-in-Until : goal.node-returns-in-Until
+node-returns-in-Until g t c =
     let N : ℕ = ids_of c.args.self.now.job.now in
     let S : Facts = facts_of (g.R.Register.meaning c.args.self.now.register.now) in
     let D : ℕ = c.args.self.now.span.hours in
@@ -266,28 +147,12 @@ node-returns-in_err-until-in-Until g t c =
     let B : Binding = c.args.binding in
     let tree = tree-read nodes k (Until c.in-Until.ends c.in-Until.hold c.in-Until.reach) c.node_ref_at.ensures.value c.node_ref_at.ensures.below c.in-Until.is in
     let u : List Part = vec_items c.until.new.table.items in
-    let r : Result ℕ Full = c.from_residual-in_err-until-in-Until.result in
-    let pr = err_from_is_err_and r c.from_residual-in_err-until-in-Until.ensures.1 in
+    let r : Result ℕ Full = c.until.result in
     at-goal N S D 4096 T0 u B r (sym tree)
-    (at_wait c.args.self.now.job.now (g.R.Register.meaning c.args.self.now.register.now) c.args.self.now.span c.args.table.now c.until.new.table B r c.new-wait.ensures (stop u _ _ r pr.0 pr.1 c.in_err-until-in-Until.ensures))
+    (at_wait c.args.self.now.job.now (g.R.Register.meaning c.args.self.now.register.now) c.args.self.now.span c.args.table.now c.until.new.table B r c.new-wait.ensures c.until.ensures)
 
-pub node-returns-in_ok-until-in-Until : goal.node-returns-in_ok-until-in-Until
-node-returns-in_ok-until-in-Until g t c =
-    let N : ℕ = ids_of c.args.self.now.job.now in
-    let S : Facts = facts_of (g.R.Register.meaning c.args.self.now.register.now) in
-    let D : ℕ = c.args.self.now.span.hours in
-    let nodes : List Node = nodes_of c.args.self.now.job.now in
-    let T0 : List Part = vec_items c.args.table.now.items in
-    let k : ℕ = c.args.number in
-    let B : Binding = c.args.binding in
-    let tree = tree-read nodes k (Until c.in-Until.ends c.in-Until.hold c.in-Until.reach) c.node_ref_at.ensures.value c.node_ref_at.ensures.below c.in-Until.is in
-    let u : List Part = vec_items c.until.new.table.items in
-    let r : Result ℕ Full = Ok c.in_ok-until-in-Until.field-0 in
-    at-goal N S D 4096 T0 u B r (sym tree)
-    (at_wait c.args.self.now.job.now (g.R.Register.meaning c.args.self.now.register.now) c.args.self.now.span c.args.table.now c.until.new.table B r c.new-wait.ensures c.in_ok-until-in-Until.ensures)
-
-pub node-returns-in_err-quantified-in-ForAll : goal.node-returns-in_err-quantified-in-ForAll
-node-returns-in_err-quantified-in-ForAll g t c =
+pub node-returns-in-ForAll : goal.node-returns-in-ForAll
+node-returns-in-ForAll g t c =
     let N : ℕ = ids_of c.args.self.now.job.now in
     let S : Facts = facts_of (g.R.Register.meaning c.args.self.now.register.now) in
     let D : ℕ = c.args.self.now.span.hours in
@@ -297,30 +162,13 @@ node-returns-in_err-quantified-in-ForAll g t c =
     let B : Binding = c.args.binding in
     let tree = tree-read nodes k (ForAll c.in-ForAll.variable c.in-ForAll.bound c.in-ForAll.body) c.node_ref_at.ensures.value c.node_ref_at.ensures.below c.in-ForAll.is in
     let u : List Part = vec_items c.quantified.new.table.items in
-    let r : Result ℕ Full = c.from_residual-in_err-quantified-in-ForAll.result in
-    let pr = err_from_is_err_and r c.from_residual-in_err-quantified-in-ForAll.ensures.1 in
+    let r : Result ℕ Full = c.quantified.result in
     at-goal N S D 4096 T0 u B r (sym tree)
     (walk-all N S D 4096 T0 u k B r c.in-ForAll.variable c.in-ForAll.bound (goal_of_node nodes c.in-ForAll.body)
-    (at-range c.args.self.now.job.now (g.R.Register.meaning c.args.self.now.register.now) c.args.self.now.span c.args.table.now c.quantified.new.table B r c.new-range.ensures (stop u _ _ r pr.0 pr.1 c.in_err-quantified-in-ForAll.ensures)))
+    (at-range c.args.self.now.job.now (g.R.Register.meaning c.args.self.now.register.now) c.args.self.now.span c.args.table.now c.quantified.new.table B r c.new-range.ensures c.quantified.ensures))
 
-pub node-returns-in_ok-quantified-in-ForAll : goal.node-returns-in_ok-quantified-in-ForAll
-node-returns-in_ok-quantified-in-ForAll g t c =
-    let N : ℕ = ids_of c.args.self.now.job.now in
-    let S : Facts = facts_of (g.R.Register.meaning c.args.self.now.register.now) in
-    let D : ℕ = c.args.self.now.span.hours in
-    let nodes : List Node = nodes_of c.args.self.now.job.now in
-    let T0 : List Part = vec_items c.args.table.now.items in
-    let k : ℕ = c.args.number in
-    let B : Binding = c.args.binding in
-    let tree = tree-read nodes k (ForAll c.in-ForAll.variable c.in-ForAll.bound c.in-ForAll.body) c.node_ref_at.ensures.value c.node_ref_at.ensures.below c.in-ForAll.is in
-    let u : List Part = vec_items c.quantified.new.table.items in
-    let r : Result ℕ Full = Ok c.in_ok-quantified-in-ForAll.field-0 in
-    at-goal N S D 4096 T0 u B r (sym tree)
-    (walk-all N S D 4096 T0 u k B r c.in-ForAll.variable c.in-ForAll.bound (goal_of_node nodes c.in-ForAll.body)
-    (at-range c.args.self.now.job.now (g.R.Register.meaning c.args.self.now.register.now) c.args.self.now.span c.args.table.now c.quantified.new.table B r c.new-range.ensures c.in_ok-quantified-in-ForAll.ensures))
-
-pub node-returns-in_err-quantified-in-Exists : goal.node-returns-in_err-quantified-in-Exists
-node-returns-in_err-quantified-in-Exists g t c =
+pub node-returns-in-Exists : goal.node-returns-in-Exists
+node-returns-in-Exists g t c =
     let N : ℕ = ids_of c.args.self.now.job.now in
     let S : Facts = facts_of (g.R.Register.meaning c.args.self.now.register.now) in
     let D : ℕ = c.args.self.now.span.hours in
@@ -330,27 +178,10 @@ node-returns-in_err-quantified-in-Exists g t c =
     let B : Binding = c.args.binding in
     let tree = tree-read nodes k (Exists c.in-Exists.variable c.in-Exists.bound c.in-Exists.body) c.node_ref_at.ensures.value c.node_ref_at.ensures.below c.in-Exists.is in
     let u : List Part = vec_items c.quantified-in-Exists.new.table.items in
-    let r : Result ℕ Full = c.from_residual-in_err-quantified-in-Exists.result in
-    let pr = err_from_is_err_and r c.from_residual-in_err-quantified-in-Exists.ensures.1 in
+    let r : Result ℕ Full = c.quantified-in-Exists.result in
     at-goal N S D 4096 T0 u B r (sym tree)
     (walk-exists N S D 4096 T0 u k B r c.in-Exists.variable c.in-Exists.bound (goal_of_node nodes c.in-Exists.body)
-    (at-range c.args.self.now.job.now (g.R.Register.meaning c.args.self.now.register.now) c.args.self.now.span c.args.table.now c.quantified-in-Exists.new.table B r c.new-range-in-Exists.ensures (stop u _ _ r pr.0 pr.1 c.in_err-quantified-in-Exists.ensures)))
-
-pub node-returns-in_ok-quantified-in-Exists : goal.node-returns-in_ok-quantified-in-Exists
-node-returns-in_ok-quantified-in-Exists g t c =
-    let N : ℕ = ids_of c.args.self.now.job.now in
-    let S : Facts = facts_of (g.R.Register.meaning c.args.self.now.register.now) in
-    let D : ℕ = c.args.self.now.span.hours in
-    let nodes : List Node = nodes_of c.args.self.now.job.now in
-    let T0 : List Part = vec_items c.args.table.now.items in
-    let k : ℕ = c.args.number in
-    let B : Binding = c.args.binding in
-    let tree = tree-read nodes k (Exists c.in-Exists.variable c.in-Exists.bound c.in-Exists.body) c.node_ref_at.ensures.value c.node_ref_at.ensures.below c.in-Exists.is in
-    let u : List Part = vec_items c.quantified-in-Exists.new.table.items in
-    let r : Result ℕ Full = Ok c.in_ok-quantified-in-Exists.field-0 in
-    at-goal N S D 4096 T0 u B r (sym tree)
-    (walk-exists N S D 4096 T0 u k B r c.in-Exists.variable c.in-Exists.bound (goal_of_node nodes c.in-Exists.body)
-    (at-range c.args.self.now.job.now (g.R.Register.meaning c.args.self.now.register.now) c.args.self.now.span c.args.table.now c.quantified-in-Exists.new.table B r c.new-range-in-Exists.ensures c.in_ok-quantified-in-Exists.ensures))
+    (at-range c.args.self.now.job.now (g.R.Register.meaning c.args.self.now.register.now) c.args.self.now.span c.args.table.now c.quantified-in-Exists.new.table B r c.new-range-in-Exists.ensures c.quantified-in-Exists.ensures))
 
 pub negated-returns-in_err-p : goal.negated-returns-in_err-p
 negated-returns-in_err-p g t c =

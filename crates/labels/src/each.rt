@@ -71,8 +71,8 @@ impl<'a, R: Register> Step<'a, R> {
         requires { length (parts_in source.now) ≤ length to.old }
         ensures { WalksAll self.now.job.now (R.Register.meaning self.now.register.now) self.now.span table.old table.new source.now to.new result }
     {
-        for k in 0..source.len() {
-            to[k] = self.one_part(table, source.part(k), to)?;
+        for (k, part) in source.parts().iter().enumerate() {
+            to[k] = self.one_part(table, *part, to)?;
         }
         Ok(())
     }

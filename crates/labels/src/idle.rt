@@ -120,8 +120,8 @@ impl<'a, R: Register> Idling<'a, R> {
         requires { length (parts_in label.now.table) ≤ length gave.old }
         ensures { (k : ℕ) → Stands label.now.table k → slice_index_or gave.new k false ≡ keeps_label self.now.job.now (R.Register.meaning self.now.register.now) (label_in label.now.table k) }
     {
-        for k in 0..label.table.len() {
-            gave[k] = self.one_part(label.table.part(k), gave);
+        for (k, part) in label.table.parts().iter().enumerate() {
+            gave[k] = self.one_part(*part, gave);
         }
     }
 }

@@ -53,6 +53,13 @@ impl<const LIMIT: usize> Table<LIMIT> {
         self.items.len()
     }
 
+    // The parts, each behind its own.
+    pub fn parts(&self) -> &[Part]
+        ensures { result.now ≡ self.now.items.items }
+    {
+        self.items.as_slice()
+    }
+
     // The part at a place.
     pub fn part(&self, place: usize) -> Part
         requires { place < length self.now.items.items }

@@ -1,8 +1,9 @@
-use Rattle.std.proofs.Common.{◌≡◌, ℕ, ◌<◌, ◌≤◌, List, length, vec_items, sym, subst, arith}
+use Rattle.std.proofs.Common.{◌≡◌, ℕ, ◌<◌, ◌≤◌, List, length, get_or, vec_items, ap, sym, subst, arith}
 use Rattle.std.proofs.lemmas.Result.{err_from_is_err_and}
 use Rattle.goals.specs.declared.goal.Node.{Node}
 use Rattle.goals.specs.JobView.{ids_of, nodes_of}
 use Rattle.labels.specs.declared.part.Part.{Part}
+use Rattle.labels.specs.declared.part.Part.TheVariants.{True}
 use Rattle.labels.specs.Facts.{Facts}
 use Rattle.labels.specs.Held.{facts_of}
 use Rattle.labels.specs.Partwise.{ProgressedTo}
@@ -31,10 +32,13 @@ returns-in_err-to g c =
     let k : ℕ = c.loop-k.k in
     let to : List ℕ = c.loop-k.to in
     let long : length t ≤ length c.args.to.now = c.requires in
-    let kl : k < length t = omega (arith, c.len-k-end.ensures, c.loop-k-test.true) in
+    let parts : c.parts-part-items.result.now ≡ t = c.parts-part-items.ensures in
+    let part : Part = get_or c.parts-part-items.result.now k True in
+    let here : get_or t k True ≡ part = ap (λ (u : List Part). get_or u k True) (sym parts) in
+    let kl : k < length t = omega (arith, ap length parts, c.loop-k-test.true) in
     let pr = err_from_is_err_and c.from_residual.result c.from_residual.ensures.1 in
     all_stop N S D nodes t to (vec_items c.one_part.new.table.items) c.from_residual.result pr.0 pr.1
-    (parts-over N S D nodes t order to d k kl c.loop-k.invariant.1 c.part.result (sym c.part.ensures) c.loop-k.invariant.0
+    (parts-over N S D nodes t order to d k kl c.loop-k.invariant.1 part here c.loop-k.invariant.0
     c.in_err-to.ensures)
 
 pub loop-k-preserved : goal.loop-k-preserved
@@ -49,8 +53,11 @@ loop-k-preserved g c =
     let k : ℕ = c.loop-k.k in
     let to : List ℕ = c.loop-k.to in
     let long : length t ≤ length c.args.to.now = c.requires in
-    let kl : k < length t = omega (arith, c.len-k-end.ensures, c.loop-k-test.true) in
-    parts_more N S D nodes t order to d k kl c.loop-k.invariant.1 c.part.result (sym c.part.ensures) c.in_ok-to.field-0 (omega arith)
+    let parts : c.parts-part-items.result.now ≡ t = c.parts-part-items.ensures in
+    let part : Part = get_or c.parts-part-items.result.now k True in
+    let here : get_or t k True ≡ part = ap (λ (u : List Part). get_or u k True) (sym parts) in
+    let kl : k < length t = omega (arith, ap length parts, c.loop-k-test.true) in
+    parts_more N S D nodes t order to d k kl c.loop-k.invariant.1 part here c.in_ok-to.field-0 (omega arith)
     c.loop-k.invariant.0 c.in_ok-to.ensures
 
 pub returns : goal.returns
@@ -61,7 +68,7 @@ returns g c =
     let nodes : List Node = nodes_of c.args.self.now.job.now in
     let t : List Part = vec_items c.args.source.now.items in
     let order = c.args.source.now.order in
-    let n : c.loop-k.k ≡ length t = omega (arith, c.len-k-end.ensures) in
+    let n : c.loop-k.k ≡ length t = omega (arith, ap length c.parts-part-items.ensures) in
     record {
       grew = parts_all N S D nodes t order c.loop-k.k n c.loop-k.invariant.0;
       placed = subst (ProgressedTo N S D nodes t c.loop-k.to (vec_items c.loop-k.table.items)) n c.loop-k.invariant.1;

@@ -16,14 +16,8 @@ impl Binding {
         ensures { result ≡ bind variable id self }
     {
         match variable {
-            Variable::Outer => Binding {
-                outer: id,
-                inner: self.inner,
-            },
-            Variable::Inner => Binding {
-                outer: self.outer,
-                inner: id,
-            },
+            Variable::Outer => Binding { outer: id, ..self },
+            Variable::Inner => Binding { inner: id, ..self },
         }
     }
 

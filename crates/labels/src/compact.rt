@@ -15,17 +15,11 @@ fn mark_own(part: Part, marks: &mut [bool])
     ensures { marks.new ≡ marked part marks.old }
 {
     match part {
-        Part::True => {}
-        Part::False => {}
-        Part::Pending { .. } => {}
+        Part::True | Part::False | Part::Pending { .. } => {}
         Part::Not(x) => {
             marks[x] = true;
         }
-        Part::And(x, y) => {
-            marks[x] = true;
-            marks[y] = true;
-        }
-        Part::Or(x, y) => {
+        Part::And(x, y) | Part::Or(x, y) => {
             marks[x] = true;
             marks[y] = true;
         }
@@ -53,17 +47,7 @@ fn moved(part: Part, to: &[usize]) -> Part
     ensures { result ≡ moved_by to.now part }
 {
     match part {
-        Part::True => Part::True,
-        Part::False => Part::False,
-        Part::Pending {
-            node,
-            binding,
-            ends,
-        } => Part::Pending {
-            node,
-            binding,
-            ends,
-        },
+        Part::True | Part::False | Part::Pending { .. } => part,
         Part::Not(x) => Part::Not(to[x]),
         Part::And(x, y) => Part::And(to[x], to[y]),
         Part::Or(x, y) => Part::Or(to[x], to[y]),

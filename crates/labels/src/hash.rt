@@ -12,10 +12,7 @@ fn end_number(upper: Option<Span>) -> usize
     ensures value { result ≡ end_number upper }
     ensures bound { result < 65536 }
 {
-    match upper {
-        Some(span) => span.hours as usize,
-        None => 10001,
-    }
+    upper.map_or(10001, |span| span.hours as usize)
 }
 
 // The bucket of a part.

@@ -16,6 +16,8 @@ use goals::job::Job;
 use goals::time::Span;
 use registers::register::Register;
 
+// Pairs, waits and ranges are made by `new`: a literal takes a line for each field, and `node` would pass 40 lines.
+
 // An "and" or an "or" of a goal, by its number and those of its parts.
 #[derive(Clone, Copy)]
 pub struct Pair {

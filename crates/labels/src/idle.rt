@@ -68,6 +68,7 @@ impl<'a, R: Register> Idling<'a, R> {
     }
 
     // Is there an id in range for which the body's answer is the wanted one?
+    // A `for`, not an `any`: a closure that calls `node` back needs clauses and a measure of its own, longer than the loop.
     #[cycle(any_node_until)]
     fn any(&self, range: Range, binding: Binding, wanted: bool) -> bool
         requires { range.body < range.node }

@@ -164,6 +164,17 @@ module _ (t : List Part) (order : InOrder t) (root : ℕ) (rl : root < length t)
     ];
   }
 
+  pub mark-skip : (marks : List Bool) (k : ℕ) → get_or marks k false ≡ false → Marking t root (suc k) marks → Marking t root k marks
+  mark-skip marks k e m = record {
+    inside = m.inside;
+    sound = m.sound;
+    top = m.top;
+    closed = λ j le f. elim (dec_lt k j) [
+      | yes l ↦ m.closed j (omega arith) f
+      | no n ↦ let i : j ≡ k = omega arith in absurd (false≢true (sym e ∙ (ap (λ (x : ℕ). get_or marks x false) (sym i) ∙ f)))
+    ];
+  }
+
   pub mark-more : (marks : List Bool) (k : ℕ) → k ≤ root → root < length marks → get_or marks k false ≡ true →
       (p : Part) → get_or t k True ≡ p → Marking t root (suc k) marks → Marking t root k (marked p marks)
   mark-more marks k kr ml e p here m =
@@ -275,6 +286,15 @@ module _ (t : List Part) (order : InOrder t) (root : ℕ) (rl : root < length t)
             (omega arith, ap (label_at d') new ∙ (m.is ∙ ap (label_at t) (sym q)))
       ],
     )
+
+    -- the same with what a call told that added the copy of the part at k
+    pub copy-one : {d₀ d u : List Part} (to : List ℕ) (k : ℕ) → k ≤ root → k < length to → get_or marks k false ≡ true →
+        Grew d₀ d (kept t marks k) → Copied t marks to d k → (p q : Part) → p ≡ get_or t k True → q ≡ moved to p →
+        (i : ℕ) → Made d u (composed (label_at d) q) (composed (label_at d) q ∷ []) i →
+        Grew d₀ u (kept t marks (k + 1)) × Copied t marks (set to k i) u (k + 1)
+    copy-one {d₀} {d} {u} to k kr tl e g c p q here is i m =
+        let label-is : composed (label_at d) q ≡ label_at t k = ap (composed (label_at d)) is ∙ copy-label to d k kr c e p (sym here) in
+        copy_more to k i e tl g c (subst (λ (l : Label). Made d u l (l ∷ []) i) label-is m)
 
     pub copy_skip : {d₀ d : List Part} (to : List ℕ) (k : ℕ) → get_or marks k false ≡ false → Grew d₀ d (kept t marks k) → Copied t marks to d k →
         Grew d₀ d (kept t marks (k + 1)) × Copied t marks to d (k + 1)

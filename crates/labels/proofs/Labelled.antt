@@ -1,5 +1,6 @@
 -- A label by its table: it has no other parts, so the table tells its size, its state and whether a job knows it.
-use Rattle.std.proofs.Common.{◌≡◌, ℕ, zero, suc, ◌<◌, Bool, true, false, T, List, [], ◌∷◌, ◌++◌, length, get_or, sym, refl, ap, ◌∙◌, subst, inl, inr, arith, ltb-true}
+use Rattle.std.proofs.Common.{◌≡◌, ℕ, zero, suc, ◌<◌, Bool, true, false, T, List, [], ◌∷◌, ◌++◌, length, get_or, sym, refl, ap, ◌∙◌, subst, inl, inr, arith, ltb-true, MatchBool}
+use Rattle.std.specs.List.{AllWithin, HoldsAt}
 use Rattle.std.proofs.lemmas.Bool.{and_parts, and_from, cases_Bool}
 use Rattle.goals.specs.declared.goal.Ends.{Ends}
 use Rattle.labels.specs.declared.binding.Binding.{Binding}
@@ -126,3 +127,10 @@ module _ (test : ℕ → Binding → Ends → Bool) where
           (subst (λ (z : Label). T (member z (parts (label_at t root)))) (label_of t order k kl) (to_T (only k kl))) h)
       | inr h ↦ sym h
     ]
+
+    -- a call's answer whether all parts of a table pass
+    pub all_told : (root : ℕ) → root < length t → OnlyParts t root → (r : Bool) →
+        MatchBool r (AllWithin (λ p. passes test p ≡ true) t 0 (length t)) ((k : ℕ) × (k < length t) × HoldsAt (λ p. passes test p ≡ false) t k) →
+        r ≡ every_pending test (label_at t root)
+    all_told root inside only true h = sym (all_pass (λ k kl. h k True (omega arith) kl) root inside)
+    all_told root inside only false h = one_fails root h.0 h.1 only (h.2 True)

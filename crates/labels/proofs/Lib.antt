@@ -18,14 +18,17 @@ pub mod Rows
 pub mod Rules
 pub mod Growing
 pub mod Places
+pub mod Joins
 pub mod Calls
 pub mod Parting
 pub mod Copies
+pub mod Filled
 pub mod Links
 pub mod Nodes
 pub mod Walking
 pub mod Shapes
 pub mod Labelled
+pub mod Working
 pub mod Answering
 pub mod Idles
 pub mod Laws

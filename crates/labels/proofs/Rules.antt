@@ -1,104 +1,75 @@
 -- The rules of the simplified joinings, one by one, and the steps of a quantifier.
-use Rattle.std.proofs.Common.{◌≡◌, ℕ, zero, suc, Bool, true, false, cond, ◌||◌, List, ◌∷◌, ◌++◌, sym, refl, ap, ◌∙◌, arith}
+use Rattle.std.proofs.Common.{◌≡◌, ℕ, zero, suc, Bool, true, false, cond, ◌||◌, List, ◌∷◌, ◌++◌, sym, refl, ap, ◌∙◌}
 use Rattle.labels.specs.Labels.{Label, true_label, false_label, and_label, or_label}
 use Rattle.labels.specs.Same.{same}
+use Rattle.labels.specs.declared.connective.Connective.{Connective}
+use Rattle.labels.specs.declared.connective.Connective.TheVariants.{And, Or}
 use Rattle.labels.specs.Joining.{conjoin, disjoin, joined}
+use Rattle.labels.specs.Connectives.{join_by, start_of}
 use Rattle.labels.specs.Work.{running}
 use Rattle.labels.proofs.Same.{same-is, same_true, same_false}
 
--- "and" as its rules read, at the answers to its tests
-conjoin-at : (q r : Label) {a b c d e : Bool} →
-    same q false_label ≡ a → same r false_label ≡ b → same q true_label ≡ c → same r true_label ≡ d → same q r ≡ e →
-    conjoin q r ≡ cond (a || b) false_label (cond c r (cond (d || e) q (and_label q r)))
-unfolding conjoin
-conjoin-at q r x y z w v = λ i. cond (x i || y i) false_label (cond (z i) r (cond (w i || v i) q (and_label q r)))
+-- the label of the part that is the result wherever it is joined
+abbrev pub absorbing : Connective → Label
+absorbing And = false_label
+absorbing Or = true_label
 
-disjoin-at : (q r : Label) {a b c d e : Bool} →
-    same q true_label ≡ a → same r true_label ≡ b → same q false_label ≡ c → same r false_label ≡ d → same q r ≡ e →
-    disjoin q r ≡ cond (a || b) true_label (cond c r (cond (d || e) q (or_label q r)))
-unfolding disjoin
-disjoin-at q r x y z w v = λ i. cond (x i || y i) true_label (cond (z i) r (cond (w i || v i) q (or_label q r)))
+abbrev pub joined_label : Connective → Label → Label → Label
+joined_label And q r = and_label q r
+joined_label Or q r = or_label q r
 
-module _ (q r : Label) where
-  pub conjoin_left_false : q ≡ false_label → conjoin q r ≡ false_label
-  conjoin_left_false e = conjoin-at q r (same_true q false_label e) refl refl refl refl
+-- a joining as its rules read, at the answers to its tests
+join-at : (by : Connective) (q r : Label) {a b c d e : Bool} →
+    same q (absorbing by) ≡ a → same r (absorbing by) ≡ b → same q (start_of by) ≡ c → same r (start_of by) ≡ d → same q r ≡ e →
+    join_by by q r ≡ cond (a || b) (absorbing by) (cond c r (cond (d || e) q (joined_label by q r)))
+unfolding conjoin disjoin
+join-at And q r x y z w v = λ i. cond (x i || y i) false_label (cond (z i) r (cond (w i || v i) q (and_label q r)))
+join-at Or q r x y z w v = λ i. cond (x i || y i) true_label (cond (z i) r (cond (w i || v i) q (or_label q r)))
 
-  pub conjoin_right_false : r ≡ false_label → conjoin q r ≡ false_label
-  conjoin_right_false e = go (same q false_label) refl
+not_both : (by : Connective) (q : Label) → q ≡ absorbing by → q ≡ start_of by → ⊥
+not_both And q e f = cc
+not_both Or q e f = cc
+
+module _ (by : Connective) (q r : Label) where
+  pub join_left_absorbing : q ≡ absorbing by → join_by by q r ≡ absorbing by
+  join_left_absorbing e = join-at by q r (same_true q (absorbing by) e) refl refl refl refl
+
+  pub join_right_absorbing : r ≡ absorbing by → join_by by q r ≡ absorbing by
+  join_right_absorbing e = go (same q (absorbing by)) refl
     where
-      go : (a : Bool) → same q false_label ≡ a → conjoin q r ≡ false_label
-      go true x = conjoin_left_false (same-is q false_label x)
-      go false x = conjoin-at q r x (same_true r false_label e) refl refl refl
+      go : (a : Bool) → same q (absorbing by) ≡ a → join_by by q r ≡ absorbing by
+      go true x = join_left_absorbing (same-is q (absorbing by) x)
+      go false x = join-at by q r x (same_true r (absorbing by) e) refl refl refl
 
-  pub conjoin_left_true : q ≡ true_label → conjoin q r ≡ r
-  conjoin_left_true e = go (same q false_label) refl (same r false_label) refl
+  pub join_left_neutral : q ≡ start_of by → join_by by q r ≡ r
+  join_left_neutral e = go (same q (absorbing by)) refl (same r (absorbing by)) refl
     where
-      go : (a : Bool) → same q false_label ≡ a → (b : Bool) → same r false_label ≡ b → conjoin q r ≡ r
-      go true x b y = let z : ◌≡◌ {A = ℕ} 0 1 = cc (same-is q false_label x) in absurd (omega arith)
-      go false x true y = conjoin_right_false (same-is r false_label y) ∙ sym (same-is r false_label y)
-      go false x false y = conjoin-at q r x y (same_true q true_label e) refl refl
+      go : (a : Bool) → same q (absorbing by) ≡ a → (b : Bool) → same r (absorbing by) ≡ b → join_by by q r ≡ r
+      go true x b y = absurd (not_both by q (same-is q (absorbing by) x) e)
+      go false x true y = join-at by q r x y refl refl refl ∙ sym (same-is r (absorbing by) y)
+      go false x false y = join-at by q r x y (same_true q (start_of by) e) refl refl
 
-  pub conjoin_right_true : r ≡ true_label → conjoin q r ≡ q
-  conjoin_right_true e = go (same q false_label) refl (same r false_label) refl (same q true_label) refl
+  pub join_right_neutral : r ≡ start_of by → join_by by q r ≡ q
+  join_right_neutral e = go (same q (absorbing by)) refl (same r (absorbing by)) refl (same q (start_of by)) refl
     where
-      go : (a : Bool) → same q false_label ≡ a → (b : Bool) → same r false_label ≡ b → (c : Bool) → same q true_label ≡ c → conjoin q r ≡ q
-      go true x b y c z = conjoin_left_false (same-is q false_label x) ∙ sym (same-is q false_label x)
-      go false x true y c z = let w : ◌≡◌ {A = ℕ} 0 1 = cc (same-is r false_label y) in absurd (omega arith)
-      go false x false y true z = conjoin_left_true (same-is q true_label z) ∙ (e ∙ sym (same-is q true_label z))
-      go false x false y false z = conjoin-at q r x y z (same_true r true_label e) refl
+      go : (a : Bool) → same q (absorbing by) ≡ a → (b : Bool) → same r (absorbing by) ≡ b → (c : Bool) → same q (start_of by) ≡ c → join_by by q r ≡ q
+      go true x b y c z = join_left_absorbing (same-is q (absorbing by) x) ∙ sym (same-is q (absorbing by) x)
+      go false x true y c z = absurd (not_both by r (same-is r (absorbing by) y) e)
+      go false x false y true z = join_left_neutral (same-is q (start_of by) z) ∙ (e ∙ sym (same-is q (start_of by) z))
+      go false x false y false z = join-at by q r x y z (same_true r (start_of by) e) refl
 
-  pub conjoin-same : q ≡ r → conjoin q r ≡ q
-  conjoin-same e = go (same q false_label) refl (same q true_label) refl (same r true_label) refl
+  pub join_same : q ≡ r → join_by by q r ≡ q
+  join_same e = go (same q (absorbing by)) refl (same q (start_of by)) refl (same r (start_of by)) refl
     where
-      go : (a : Bool) → same q false_label ≡ a → (c : Bool) → same q true_label ≡ c → (d : Bool) → same r true_label ≡ d → conjoin q r ≡ q
-      go true x c z d w = conjoin_left_false (same-is q false_label x) ∙ sym (same-is q false_label x)
-      go false x true z d w = conjoin_left_true (same-is q true_label z) ∙ sym e
-      go false x false z true w = conjoin_right_true (same-is r true_label w)
-      go false x false z false w = conjoin-at q r x (ap (λ (l : Label). same l false_label) (sym e) ∙ x) z w (same_true q r e)
+      go : (a : Bool) → same q (absorbing by) ≡ a → (c : Bool) → same q (start_of by) ≡ c → (d : Bool) → same r (start_of by) ≡ d → join_by by q r ≡ q
+      go true x c z d w = join_left_absorbing (same-is q (absorbing by) x) ∙ sym (same-is q (absorbing by) x)
+      go false x true z d w = join_left_neutral (same-is q (start_of by) z) ∙ sym e
+      go false x false z true w = join_right_neutral (same-is r (start_of by) w)
+      go false x false z false w = join-at by q r x (ap (λ (l : Label). same l (absorbing by)) (sym e) ∙ x) z w (same_true q r e)
 
-  pub conjoin-apart : ¬ (q ≡ false_label) → ¬ (r ≡ false_label) → ¬ (q ≡ true_label) → ¬ (r ≡ true_label) → ¬ (q ≡ r) → conjoin q r ≡ and_label q r
-  conjoin-apart x y z w v =
-      conjoin-at q r (same_false q false_label x) (same_false r false_label y) (same_false q true_label z) (same_false r true_label w) (same_false q r v)
-
-  pub disjoin_left_true : q ≡ true_label → disjoin q r ≡ true_label
-  disjoin_left_true e = disjoin-at q r (same_true q true_label e) refl refl refl refl
-
-  pub disjoin_right_true : r ≡ true_label → disjoin q r ≡ true_label
-  disjoin_right_true e = go (same q true_label) refl
-    where
-      go : (a : Bool) → same q true_label ≡ a → disjoin q r ≡ true_label
-      go true x = disjoin_left_true (same-is q true_label x)
-      go false x = disjoin-at q r x (same_true r true_label e) refl refl refl
-
-  pub disjoin_left_false : q ≡ false_label → disjoin q r ≡ r
-  disjoin_left_false e = go (same q true_label) refl (same r true_label) refl
-    where
-      go : (a : Bool) → same q true_label ≡ a → (b : Bool) → same r true_label ≡ b → disjoin q r ≡ r
-      go true x b y = let z : ◌≡◌ {A = ℕ} 0 1 = cc (same-is q true_label x) in absurd (omega arith)
-      go false x true y = disjoin_right_true (same-is r true_label y) ∙ sym (same-is r true_label y)
-      go false x false y = disjoin-at q r x y (same_true q false_label e) refl refl
-
-  pub disjoin_right_false : r ≡ false_label → disjoin q r ≡ q
-  disjoin_right_false e = go (same q true_label) refl (same r true_label) refl (same q false_label) refl
-    where
-      go : (a : Bool) → same q true_label ≡ a → (b : Bool) → same r true_label ≡ b → (c : Bool) → same q false_label ≡ c → disjoin q r ≡ q
-      go true x b y c z = disjoin_left_true (same-is q true_label x) ∙ sym (same-is q true_label x)
-      go false x true y c z = let w : ◌≡◌ {A = ℕ} 0 1 = cc (same-is r true_label y) in absurd (omega arith)
-      go false x false y true z = disjoin_left_false (same-is q false_label z) ∙ (e ∙ sym (same-is q false_label z))
-      go false x false y false z = disjoin-at q r x y z (same_true r false_label e) refl
-
-  pub disjoin-same : q ≡ r → disjoin q r ≡ q
-  disjoin-same e = go (same q true_label) refl (same q false_label) refl (same r false_label) refl
-    where
-      go : (a : Bool) → same q true_label ≡ a → (c : Bool) → same q false_label ≡ c → (d : Bool) → same r false_label ≡ d → disjoin q r ≡ q
-      go true x c z d w = disjoin_left_true (same-is q true_label x) ∙ sym (same-is q true_label x)
-      go false x true z d w = disjoin_left_false (same-is q false_label z) ∙ sym e
-      go false x false z true w = disjoin_right_false (same-is r false_label w)
-      go false x false z false w = disjoin-at q r x (ap (λ (l : Label). same l true_label) (sym e) ∙ x) z w (same_true q r e)
-
-  pub disjoin-apart : ¬ (q ≡ true_label) → ¬ (r ≡ true_label) → ¬ (q ≡ false_label) → ¬ (r ≡ false_label) → ¬ (q ≡ r) → disjoin q r ≡ or_label q r
-  disjoin-apart x y z w v =
-      disjoin-at q r (same_false q true_label x) (same_false r true_label y) (same_false q false_label z) (same_false r false_label w) (same_false q r v)
+  pub join_apart : ¬ (q ≡ absorbing by) → ¬ (r ≡ absorbing by) → ¬ (q ≡ start_of by) → ¬ (r ≡ start_of by) → ¬ (q ≡ r) → join_by by q r ≡ joined_label by q r
+  join_apart x y z w v =
+      join-at by q r (same_false q (absorbing by) x) (same_false r (absorbing by) y) (same_false q (start_of by) z) (same_false r (start_of by) w) (same_false q r v)
 
 -- one id more of a quantifier: out of range, or in it
 module _ (join : Label → Label → Label) (start : Label) (range : ℕ → Bool) (item : ℕ → Label) where

@@ -10,7 +10,7 @@ use Rattle.labels.specs.declared.walk.Wait.{Wait}
 use Rattle.labels.specs.declared.walk.Range.{Range}
 use Rattle.labels.specs.JobWalks.{wait_of, Walks, WalksPair, WalksRange, keeps, keeps_any}
 
-module _ (job : Job) (m : Meaning) (D : Span) {E : Type 0} (old new : Table) (b : Binding) (r : Result ℕ E) where
+module _ (job : Job) (m : Meaning) (D : Span) {E : Type 0} {limit : ℕ} (old new : Table limit) (b : Binding) (r : Result ℕ E) where
   pub at_pair : {p q : Pair} → p ≡ q → WalksPair job m D old new p b r → WalksPair job m D old new q b r
   at_pair e o = subst (λ (p : Pair). WalksPair job m D old new p b r) e o
 

@@ -23,14 +23,6 @@ use Rattle.labels.specs.Walks.{Walked, joined_to, results_to}
 use Rattle.labels.proofs.Growing.{stands}
 use Rattle.labels.proofs.Calls.{at_label, sub-append, sub_tail, sub_left, sub_right, sub_same, over-sub, over-after, until-first-over, until-rest-over, until-both-over, until-waits, until-second-over, until-ends, start_in, turn_none, turn_skip, turn_item-over, turn-join-over, turn_more, turns_end, turns_over}
 
--- a call whose table has the same limit
-pub at-limit : {E : Type 0} {l m : ℕ} (t u : List Part) (q : Label) (more : List Label) (r : Result ℕ E) → l ≡ m →
-    Outcome l t u q more r → Outcome m t u q more r
-at-limit t u q more r e o = subst (λ (n : ℕ). Outcome n t u q more r) e o
-
-pub over-limit : {l m : ℕ} {t : List Part} {more : List Label} → l ≡ m → Over l t more → Over m t more
-over-limit {l} {m} {t} {more} e o = subst (λ (n : ℕ). Over n t more) e o
-
 -- the exit where the limit is passed
 pub stop : {E : Type 0} {limit : ℕ} {t : List Part} (u : List Part) (q : Label) (more : List Label) (r : Result ℕ E) (y : E) → r ≡ Err y →
     Over limit t more → Outcome limit t u q more r
@@ -45,9 +37,9 @@ module _ (join : Label → Label → Label) (p q : Label) (a b : List Label) whe
   pub left_over : {limit : ℕ} {t : List Part} → Over limit t a → Over limit t (join p q ∷ (a ++ b))
   left_over o = over-sub (join p q ∷ (a ++ b)) (sub_tail (sub_left b sub_same)) o
 
-  pub right_over : {limit l : ℕ} {t u : List Part} {i : ℕ} → l ≡ limit → Made t u p a i → Over l u b → Over limit t (join p q ∷ (a ++ b))
-  right_over e m o =
-      over-after (join p q ∷ (a ++ b)) m.grew (sub-append (sub_tail (sub_left b sub_same)) (sub_tail (sub_right a sub_same))) (over-limit e o)
+  pub right_over : {limit : ℕ} {t u : List Part} {i : ℕ} → Made t u p a i → Over limit u b → Over limit t (join p q ∷ (a ++ b))
+  right_over m o =
+      over-after (join p q ∷ (a ++ b)) m.grew (sub-append (sub_tail (sub_left b sub_same)) (sub_tail (sub_right a sub_same))) o
 
 module _ (N : ℕ) (s : Facts) (D : ℕ) where
   pub at-goal : {E : Type 0} (limit : ℕ) (t u : List Part) {φ ψ : Goal} (b : Binding) (r : Result ℕ E) → φ ≡ ψ →
@@ -138,19 +130,19 @@ module _ (N : ℕ) (s : Facts) (D : ℕ) where
     hold_over {limit} {t} o =
         subst (Over limit t) (sym results_are) (until-first-over whole (rest D k b e) both (results N s D φ b) (second late) o)
 
-    pub rest_over : {limit l : ℕ} {t u : List Part} {i : ℕ} → l ≡ limit → Made t u (progress N s D φ b) (results N s D φ b) i →
-        Over l u (rest D k b e ∷ []) → Over limit t (results N s D (until k e φ ψ) b)
-    rest_over {limit} {l} {t} f m o =
+    pub rest_over : {limit : ℕ} {t u : List Part} {i : ℕ} → Made t u (progress N s D φ b) (results N s D φ b) i →
+        Over limit u (rest D k b e ∷ []) → Over limit t (results N s D (until k e φ ψ) b)
+    rest_over {limit} {t} m o =
         subst (Over limit t) (sym results_are)
-        (until-rest-over whole (rest D k b e) both (results N s D φ b) (second late) m (over-limit f o))
+        (until-rest-over whole (rest D k b e) both (results N s D φ b) (second late) m o)
 
     module _ {t u v : List Part} (i j : ℕ) (m : Made t u (progress N s D φ b) (results N s D φ b) i)
         (n : Made u v (rest D k b e) (rest D k b e ∷ []) j) where
-      pub both-over : {limit l : ℕ} → l ≡ limit → Over l v (conjoin (label_at v i) (label_at v j) ∷ []) →
+      pub both-over : {limit : ℕ} → Over limit v (conjoin (label_at v i) (label_at v j) ∷ []) →
           Over limit t (results N s D (until k e φ ψ) b)
-      both-over {limit} f o =
+      both-over {limit} o =
           subst (Over limit t) (sym results_are)
-          (until-both-over whole (rest D k b e) both (results N s D φ b) (second late) i j m n refl (over-limit f o))
+          (until-both-over whole (rest D k b e) both (results N s D φ b) (second late) i j m n refl o)
 
       module _ {w : List Part} (h : ℕ) (o : Made v w (conjoin (label_at v i) (label_at v j)) (conjoin (label_at v i) (label_at v j) ∷ []) h) where
         pub waits : 0 < e.lower.hours → Made t w (progress N s D (until k e φ ψ) b) (results N s D (until k e φ ψ) b) h
@@ -163,21 +155,21 @@ module _ (N : ℕ) (s : Facts) (D : ℕ) where
           early : late ≡ false
           early = le-ltb 0 e.lower.hours le
 
-          pub reach-over : {limit l : ℕ} → l ≡ limit → Over l w (results N s D ψ b) → Over limit t (results N s D (until k e φ ψ) b)
-          reach-over {limit} f ov =
+          pub reach-over : {limit : ℕ} → Over limit w (results N s D ψ b) → Over limit t (results N s D (until k e φ ψ) b)
+          reach-over {limit} ov =
               subst (Over limit t) (sym results_are)
               (until-second-over whole (rest D k b e) both (results N s D φ b) (second late) i j m n refl h o
-              (subst (Over limit w) (sym (ap second early)) (over-limit f ov)))
+              (subst (Over limit w) (sym (ap second early)) ov))
 
-          pub reaches-it : {E : Type 0} {limit l : ℕ} {x : List Part} (y : List Part) (i' : ℕ) (r : Result ℕ E) → l ≡ limit →
+          pub reaches-it : {E : Type 0} (limit : ℕ) {x : List Part} (y : List Part) (i' : ℕ) (r : Result ℕ E) →
               Made w x (progress N s D ψ b) (results N s D ψ b) i' →
-              Added l x y (disjoin (label_at x i') (label_at x h)) r → Walked N s D limit t y (until k e φ ψ) b r
-          reaches-it {E} {limit} {l} {x} y i' r f m' ad =
+              Added limit x y (disjoin (label_at x i') (label_at x h)) r → Walked N s D limit t y (until k e φ ψ) b r
+          reaches-it {E} limit {x} y i' r m' ad =
               subst (λ (ls : List Label). Outcome limit t y whole ls r) (sym results_are)
               (until-ends whole (rest D k b e) both (results N s D φ b) (second late) i j m n refl h o limit y i' r
               (subst (λ (ls : List Label). Made w x (progress N s D ψ b) ls i') (sym (ap second early)) m')
               (sym (whole_is ∙ ap ended early))
-              (at-limit x y (disjoin (label_at x i') (label_at x h)) (disjoin (label_at x i') (label_at x h) ∷ []) r f ad))
+              ad)
 
   -- a quantifier
   module _ (by : Connective) (v : Variable) (a : Atom) (φ : Goal) (b : Binding) where
@@ -206,19 +198,19 @@ module _ (N : ℕ) (s : Facts) (D : ℕ) where
         in-range : range n ≡ true
         in-range = subst (λ (x : Binding). fact s x a ≡ true) is e
 
-        pub item-over : {limit l : ℕ} → l ≡ limit → n < N → Over l u (results N s D φ w) → Over limit t (results_to N s D by v a φ b N)
-        item-over {limit} f lt o =
+        pub item-over : {limit : ℕ} → n < N → Over limit u (results N s D φ w) → Over limit t (results_to N s D by v a φ b N)
+        item-over {limit} lt o =
             turn_item-over (join_by by) (start_of by) range item found n in-range i m N lt
-            (subst (λ (x : Binding). Over limit u (results N s D φ x)) is (over-limit f o))
+            (subst (λ (x : Binding). Over limit u (results N s D φ x)) is o)
 
         module _ {x : List Part} (j : ℕ) (p : Made u x (progress N s D φ w) (results N s D φ w) j) where
           at-id : Made u x (item n) (found n) j
           at-id = subst (λ (z : Binding). Made u x (progress N s D φ z) (results N s D φ z) j) is p
 
-          pub join-over : {limit l : ℕ} → l ≡ limit → n < N → Over l x (join_by by (label_at x i) (label_at x j) ∷ []) →
+          pub join-over : {limit : ℕ} → n < N → Over limit x (join_by by (label_at x i) (label_at x j) ∷ []) →
               Over limit t (results_to N s D by v a φ b N)
-          join-over f lt o =
-              turn-join-over (join_by by) (start_of by) range item found n in-range i m j at-id N lt (over-limit f o)
+          join-over lt o =
+              turn-join-over (join_by by) (start_of by) range item found n in-range i m j at-id N lt o
 
           pub joins : {y : List Part} {h : ℕ} →
               Made x y (join_by by (label_at x i) (label_at x j)) (join_by by (label_at x i) (label_at x j) ∷ []) h →
@@ -237,9 +229,9 @@ module _ (N : ℕ) (s : Facts) (D : ℕ) where
     pub start-over : {limit : ℕ} {t : List Part} → Over limit t (start_of by ∷ []) → Over limit t (results_to N s D by v a φ b N)
     start-over o = over-sub (results_to N s D by v a φ b N) (start_in (join_by by) (start_of by) range item found N) o
 
-    pub turn_over : {limit l : ℕ} {t u : List Part} {i : ℕ} → l ≡ limit → Made t u (start_of by) (start_of by ∷ []) i →
-        Over l u (results_to N s D by v a φ b N) → Over limit t (results_to N s D by v a φ b N)
-    turn_over e g o = turns_over (join_by by) (start_of by) range item found N g (over-limit e o)
+    pub turn_over : {limit : ℕ} {t u : List Part} {i : ℕ} → Made t u (start_of by) (start_of by ∷ []) i →
+        Over limit u (results_to N s D by v a φ b N) → Over limit t (results_to N s D by v a φ b N)
+    turn_over g o = turns_over (join_by by) (start_of by) range item found N g o
 
 -- ends matter to an until only
 pub with_other : (part : ℕ → Goal) (k : ℕ) (nd : Node) (e : Ends) → ((own : Ends) (x y : ℕ) → ¬ (nd ≡ Until own x y)) →

@@ -1,6 +1,6 @@
 -- An index of a table of parts by chains: parts of one bucket are linked, each to the one before it.
--- A link is the number of a part and one more; 0 ends a chain.
-use Rattle.std.specs.Prelude.{◌≡◌, ℕ, suc, ◌+◌, ◌*◌, ◌%◌, ◌<◌, ◌≤◌, List, length, Some, None, Option, slice_index, slice_index_or}
+-- A link is the place of a part; where there is none a chain ends.
+use Rattle.std.specs.Prelude.{◌≡◌, ℕ, suc, ◌+◌, ◌*◌, ◌%◌, ◌<◌, List, length, Some, None, Option, slice_index_or}
 use Rattle.goals.specs.declared.time.Span.{Span}
 use Rattle.labels.specs.declared.part.Part.{Part}
 use Rattle.labels.specs.declared.part.Part.TheVariants.{True, False, Pending, Not, And, Or}
@@ -22,26 +22,32 @@ bucket (Or x y) = (x % 4096 * 41 + y % 4096 * 94 + 4) % 1024
 abbrev pub bucket_at : List Part → ℕ → ℕ
 bucket_at table k = bucket (slice_index_or table k True)
 
+-- how many parts stand up to the one linked to
+abbrev pub reach : Option ℕ → ℕ
+reach (Some k) = suc k
+reach None = 0
+
 -- the head of a bucket is no earlier than any of its parts
-abbrev pub Latest : List Part → List ℕ → Type 0
-Latest table heads = (k : ℕ) → k < length table → suc k ≤ slice_index heads (bucket_at table k)
+abbrev pub Latest : List Part → List (Option ℕ) → Type 0
+Latest table heads = (k : ℕ) → k < length table → k < reach (slice_index_or heads (bucket_at table k) None)
 
 -- the part linked to another is no earlier than any part before that one in its bucket
-abbrev pub Linked : List Part → List ℕ → Type 0
-Linked table next = (j k : ℕ) → (k < j) × (j < length table) × (bucket_at table k ≡ bucket_at table j) → suc k ≤ slice_index next j
+abbrev pub Linked : List Part → List (Option ℕ) → Type 0
+Linked table next =
+    (j k : ℕ) → (k < j) × (j < length table) × (bucket_at table k ≡ bucket_at table j) → k < reach (slice_index_or next j None)
 
 -- the head of a bucket is a part of the table
-abbrev pub HeadsIn : List Part → List ℕ → Type 0
-HeadsIn table heads = (b k : ℕ) → slice_index heads b ≡ suc k → k < length table
+abbrev pub HeadsIn : List Part → List (Option ℕ) → Type 0
+HeadsIn table heads = (b k : ℕ) → slice_index_or heads b None ≡ Some k → k < length table
 
 -- and of that bucket
-abbrev pub HeadsOf : List Part → List ℕ → Type 0
-HeadsOf table heads = (b k : ℕ) → slice_index heads b ≡ suc k → bucket_at table k ≡ b
+abbrev pub HeadsOf : List Part → List (Option ℕ) → Type 0
+HeadsOf table heads = (b k : ℕ) → slice_index_or heads b None ≡ Some k → bucket_at table k ≡ b
 
 -- a link goes to a part before
-abbrev pub FallsIn : List Part → List ℕ → Type 0
-FallsIn table next = (j k : ℕ) → (j < length table) × (slice_index next j ≡ suc k) → k < j
+abbrev pub FallsIn : List Part → List (Option ℕ) → Type 0
+FallsIn table next = (j k : ℕ) → (j < length table) × (slice_index_or next j None ≡ Some k) → k < j
 
 -- and of the same bucket
-abbrev pub FallsOf : List Part → List ℕ → Type 0
-FallsOf table next = (j k : ℕ) → (j < length table) × (slice_index next j ≡ suc k) → bucket_at table k ≡ bucket_at table j
+abbrev pub FallsOf : List Part → List (Option ℕ) → Type 0
+FallsOf table next = (j k : ℕ) → (j < length table) × (slice_index_or next j None ≡ Some k) → bucket_at table k ≡ bucket_at table j

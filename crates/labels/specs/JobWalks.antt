@@ -41,26 +41,26 @@ module _ (job : Job) (m : Meaning) (D : Span) where
   results_at φ b = results (ids_of job) (facts_of m) D.hours φ b
 
   -- a node
-  abbrev pub Walks : {E : Type 0} → Table → Table → Goal → Binding → Result ℕ E → Type 0
+  abbrev pub Walks : {E : Type 0} {limit : ℕ} → Table limit → Table limit → Goal → Binding → Result ℕ E → Type 0
   Walks old new φ b answer = Gains old new (progress_at φ b) (results_at φ b) answer
 
   -- a node, negated
   abbrev pub not_at : ℕ → Binding → Label
   not_at number b = negate (progress_at (node_of job number) b)
 
-  abbrev pub WalksNot : {E : Type 0} → Table → Table → ℕ → Binding → Result ℕ E → Type 0
+  abbrev pub WalksNot : {E : Type 0} {limit : ℕ} → Table limit → Table limit → ℕ → Binding → Result ℕ E → Type 0
   WalksNot old new number b answer = Gains old new (not_at number b) (not_at number b ∷ results_at (node_of job number) b) answer
 
   -- two nodes, joined
   abbrev pub pair_at : Pair → Binding → Label
   pair_at p b = join_by p.by (progress_at (node_of job p.left) b) (progress_at (node_of job p.right) b)
 
-  abbrev pub WalksPair : {E : Type 0} → Table → Table → Pair → Binding → Result ℕ E → Type 0
+  abbrev pub WalksPair : {E : Type 0} {limit : ℕ} → Table limit → Table limit → Pair → Binding → Result ℕ E → Type 0
   WalksPair old new p b answer =
       Gains old new (pair_at p b) (pair_at p b ∷ (results_at (node_of job p.left) b ++ results_at (node_of job p.right) b)) answer
 
   -- a quantifier, over all ids
-  abbrev pub WalksRange : {E : Type 0} → Table → Table → Range → Binding → Result ℕ E → Type 0
+  abbrev pub WalksRange : {E : Type 0} {limit : ℕ} → Table limit → Table limit → Range → Binding → Result ℕ E → Type 0
   WalksRange old new r b answer =
       Gains old new
       (joined_to (ids_of job) (facts_of m) D.hours r.by r.variable r.bound (node_of job r.body) b (ids_of job))
@@ -68,7 +68,7 @@ module _ (job : Job) (m : Meaning) (D : Span) where
       answer
 
   -- a part, where the progress of its own parts stands at places of the table
-  abbrev pub WalksPart : {E : Type 0} → Table → Table → Part → List ℕ → Result ℕ E → Type 0
+  abbrev pub WalksPart : {E : Type 0} {limit : ℕ} → Table limit → Table limit → Part → List ℕ → Result ℕ E → Type 0
   WalksPart old new p to answer =
       Gains old new
       (part_progress (ids_of job) (facts_of m) D.hours (nodes_of job) (λ x. label_in old (slice_index to x)) p)
@@ -76,12 +76,12 @@ module _ (job : Job) (m : Meaning) (D : Span) where
       answer
 
   -- every part of a table
-  abbrev pub WalksAll : {E : Type 0} → Table → Table → Table → List ℕ → Result (Unit {0}) E → Type 0
-  WalksAll old new source to answer =
-      ProgressedAll (ids_of job) (facts_of m) D.hours (nodes_of job) old.limit (parts_in source) to (parts_in old) (parts_in new) answer
+  abbrev pub WalksAll : {E : Type 0} {limit below : ℕ} → Table limit → Table limit → Table below → List ℕ → Result (Unit {0}) E → Type 0
+  WalksAll {limit = limit} old new source to answer =
+      ProgressedAll (ids_of job) (facts_of m) D.hours (nodes_of job) limit (parts_in source) to (parts_in old) (parts_in new) answer
 
   -- a whole label, into a table of its own
-  abbrev pub WorksOut : Label → Table → Result ℕ LabelRefusal → Type 0
+  abbrev pub WorksOut : {limit : ℕ} → Label → Table limit → Result ℕ LabelRefusal → Type 0
   WorksOut l new answer = Worked (ids_of job) (facts_of m) D.hours (nodes_of job) l (parts_in new) answer
 
 module _ (job : Job) (m : Meaning) where

@@ -7,20 +7,20 @@ use Rattle.labels.specs.Labels.{Label}
 use Rattle.labels.specs.Table.{label_at}
 use Rattle.labels.specs.Growth.{Outcome, Added}
 
-abbrev pub parts_in : Table → List Part
+abbrev pub parts_in : {limit : ℕ} → Table limit → List Part
 parts_in table = vec_items table.items
 
-abbrev pub label_in : Table → ℕ → Label
+abbrev pub label_in : {limit : ℕ} → Table limit → ℕ → Label
 label_in table place = label_at (parts_in table) place
 
 -- there is a part at the place
-abbrev pub Stands : Table → ℕ → Type 0
+abbrev pub Stands : {limit : ℕ} → Table limit → ℕ → Type 0
 Stands table place = place < length (parts_in table)
 
 -- a table gains some labels, one of them to be told
-abbrev pub Gains : {E : Type 0} → Table → Table → Label → List Label → Result ℕ E → Type 0
-Gains old new label more answer = Outcome old.limit (parts_in old) (parts_in new) label more answer
+abbrev pub Gains : {E : Type 0} {limit : ℕ} → Table limit → Table limit → Label → List Label → Result ℕ E → Type 0
+Gains {limit = limit} old new label more answer = Outcome limit (parts_in old) (parts_in new) label more answer
 
 -- a table gains one label
-abbrev pub Adds : {E : Type 0} → Table → Table → Label → Result ℕ E → Type 0
-Adds old new label answer = Added old.limit (parts_in old) (parts_in new) label answer
+abbrev pub Adds : {E : Type 0} {limit : ℕ} → Table limit → Table limit → Label → Result ℕ E → Type 0
+Adds {limit = limit} old new label answer = Added limit (parts_in old) (parts_in new) label answer

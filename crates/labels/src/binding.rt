@@ -4,7 +4,7 @@ ghost use Rattle.labels.specs.Facts.{bind, value as value_in};
 use goals::goal::{Term, Variable};
 
 // The ids of the outer and of the inner variable, 0 where none is bound.
-#[derive(Clone, Copy)]
+#[derive(Clone, Copy, PartialEq, Eq, Debug)]
 pub struct Binding {
     pub outer: u16,
     pub inner: u16,
@@ -16,14 +16,8 @@ impl Binding {
         ensures { result ≡ bind variable id self }
     {
         match variable {
-            Variable::Outer => Binding {
-                outer: id,
-                inner: self.inner,
-            },
-            Variable::Inner => Binding {
-                outer: self.outer,
-                inner: id,
-            },
+            Variable::Outer => Binding { outer: id, ..self },
+            Variable::Inner => Binding { inner: id, ..self },
         }
     }
 

@@ -1,4 +1,4 @@
-ghost use Rattle.std.specs.Prelude.{◌≡◌, ◌≤◌, true, length, vec_len};
+ghost use Rattle.std.specs.Prelude.{◌≡◌, ◌≤◌, true, length};
 ghost use Rattle.labels.specs.Goals.{with_ends};
 ghost use Rattle.labels.specs.Table.{before};
 ghost use Rattle.labels.specs.Partwise.{moved};
@@ -6,82 +6,74 @@ ghost use Rattle.labels.specs.TableView.{parts_in};
 ghost use Rattle.labels.specs.JobWalks.{node_of, Walks, WalksPart, WalksAll};
 
 use crate::binding::Binding;
+use crate::connective::Connective;
+use crate::label::LARGEST;
 use crate::part::Part;
 use crate::read::node_at;
 use crate::table::{Full, Table};
-use crate::walk::{Wait, node, until};
+use crate::walk::{Step, Wait};
+use crate::workspace::MOST_WORK;
 use goals::goal::{Ends, Node};
-use goals::job::Job;
-use goals::time::Span;
 use registers::register::Register;
 
-// The progress of a pending part.
-fn pending<R: Register>(
-    table: &mut Table,
-    job: &Job,
-    register: &R,
-    span: Span,
-    number: usize,
-    binding: Binding,
-    ends: Ends,
-) -> Result<usize, Full>
-    ensures limit { table.new.limit ≡ table.old.limit }
-    ensures outcome { Walks job.now (R.Register.meaning register.now) span table.old table.new (with_ends ends (node_of job.now number)) binding result }
-{
-    match *node_at(job, number) {
-        Node::Until(_, hold, reach) => {
-            let wait = Wait::new(number, ends, hold, reach);
-            until(table, job, register, span, wait, binding)
+impl<'a, R: Register> Step<'a, R> {
+    // The progress of a pending part.
+    fn pending(
+        &self,
+        table: &mut Table<MOST_WORK>,
+        number: usize,
+        binding: Binding,
+        ends: Ends,
+    ) -> Result<usize, Full>
+        ensures { Walks self.now.job.now (R.Register.meaning self.now.register.now) self.now.span table.old table.new (with_ends ends (node_of self.now.job.now number)) binding result }
+    {
+        match *node_at(self.job, number) {
+            Node::Until(_, hold, reach) => {
+                let wait = Wait::new(number, ends, hold, reach);
+                self.until(table, wait, binding)
+            }
+            _ => self.node(table, number, binding),
         }
-        _ => node(table, job, register, span, number, binding),
     }
-}
 
-// The progress of one part, from where the progress of its own parts stands.
-fn one_part<R: Register>(
-    table: &mut Table,
-    job: &Job,
-    register: &R,
-    span: Span,
-    part: Part,
-    to: &Vec<usize>,
-) -> Result<usize, Full>
-    requires read { before (length to.now.items) part ≡ true }
-    requires early { before (length (parts_in table.old)) (moved to.now.items part) ≡ true }
-    ensures limit { table.new.limit ≡ table.old.limit }
-    ensures outcome { WalksPart job.now (R.Register.meaning register.now) span table.old table.new part to.now.items result }
-{
-    match part {
-        Part::True => table.add(Part::True),
-        Part::False => table.add(Part::False),
-        Part::Pending {
-            node,
-            binding,
-            ends,
-        } => pending(table, job, register, span, node, binding, ends),
-        Part::Not(x) => table.negate(to[x]),
-        Part::And(x, y) => table.conjoin(to[x], to[y]),
-        Part::Or(x, y) => table.disjoin(to[x], to[y]),
+    // The progress of one part, from where the progress of its own parts stands.
+    fn one_part(
+        &self,
+        table: &mut Table<MOST_WORK>,
+        part: Part,
+        to: &[usize],
+    ) -> Result<usize, Full>
+        requires read { before (length to.now) part ≡ true }
+        requires early { before (length (parts_in table.old)) (moved to.now part) ≡ true }
+        ensures { WalksPart self.now.job.now (R.Register.meaning self.now.register.now) self.now.span table.old table.new part to.now result }
+    {
+        match part {
+            Part::True => table.add(Part::True),
+            Part::False => table.add(Part::False),
+            Part::Pending {
+                node,
+                binding,
+                ends,
+            } => self.pending(table, node, binding, ends),
+            Part::Not(x) => table.negate(to[x]),
+            Part::And(x, y) => table.join(Connective::And, to[x], to[y]),
+            Part::Or(x, y) => table.join(Connective::Or, to[x], to[y]),
+        }
     }
-}
 
-// The progress of every part of a table, each once and in its order; `to` tells where it stands.
-pub fn every_part<R: Register>(
-    table: &mut Table,
-    job: &Job,
-    register: &R,
-    span: Span,
-    source: &Table,
-    to: &mut Vec<usize>,
-) -> Result<(), Full>
-    requires { length (parts_in source.now) ≤ vec_len to.old }
-    ensures limit { table.new.limit ≡ table.old.limit }
-    ensures len { vec_len to.new ≡ vec_len to.old }
-    ensures outcome { WalksAll job.now (R.Register.meaning register.now) span table.old table.new source.now to.new.items result }
-{
-    for k in 0..source.len() {
-        let at = one_part(table, job, register, span, source.part(k), to)?;
-        to[k] = at;
+    // The progress of every part of a table, each once and in its order; `to` tells where it stands.
+    pub fn every_part(
+        &self,
+        table: &mut Table<MOST_WORK>,
+        source: &Table<LARGEST>,
+        to: &mut [usize],
+    ) -> Result<(), Full>
+        requires { length (parts_in source.now) ≤ length to.old }
+        ensures { WalksAll self.now.job.now (R.Register.meaning self.now.register.now) self.now.span table.old table.new source.now to.new result }
+    {
+        for (k, part) in source.parts().iter().enumerate() {
+            to[k] = self.one_part(table, *part, to)?;
+        }
+        Ok(())
     }
-    Ok(())
 }

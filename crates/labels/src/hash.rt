@@ -4,6 +4,7 @@ ghost use Rattle.labels.specs.Chains.{end_number, bucket};
 use crate::part::Part;
 use goals::time::Span;
 
+// A hash of our own, not a `HashMap`: its insert asks for memory, and a step may ask for none.
 // How many buckets a table has.
 pub const BUCKETS: usize = 1024;
 
@@ -11,10 +12,7 @@ fn end_number(upper: Option<Span>) -> usize
     ensures value { result ≡ end_number upper }
     ensures bound { result < 65536 }
 {
-    match upper {
-        Some(span) => span.hours as usize,
-        None => 10001,
-    }
+    upper.map_or(10001, |span| span.hours as usize)
 }
 
 // The bucket of a part.

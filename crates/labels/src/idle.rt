@@ -1,4 +1,4 @@
-ghost use Rattle.std.specs.Prelude.{◌≡◌, ℕ, ◌<◌, ◌≤◌, true, false, length, IfOk, vec_len, slice_index_or};
+ghost use Rattle.std.specs.Prelude.{◌≡◌, ℕ, ◌<◌, ◌≤◌, true, false, length, IfOk, slice_index_or};
 ghost use Rattle.labels.specs.Goals.{with_ends};
 ghost use Rattle.labels.specs.Table.{before};
 ghost use Rattle.labels.specs.TableView.{parts_in, label_in, Stands};
@@ -19,124 +19,111 @@ use goals::goal::{Ends, Node};
 use goals::job::Job;
 use registers::register::Register;
 
-// Does holding the register's facts for ever keep a goal node under a binding?
-#[cycle(any_node_until)]
-fn node<R: Register>(job: &Job, register: &R, number: usize, binding: Binding) -> bool
-    ensures { result ≡ keeps job.now (R.Register.meaning register.now) (node_of job.now number) binding }
-{
-    match *node_at(job, number) {
-        Node::True => true,
-        Node::Test(atom) => is_fact(register, binding, atom),
-        Node::Equal(left, right) => binding.value(left) == binding.value(right),
-        Node::Not(x) => !node(job, register, x, binding),
-        Node::And(left, right) => {
-            if !node(job, register, left, binding) {
-                return false;
-            }
-            node(job, register, right, binding)
-        }
-        Node::Or(left, right) => {
-            if node(job, register, left, binding) {
-                return true;
-            }
-            node(job, register, right, binding)
-        }
-        Node::Next(x) => node(job, register, x, binding),
-        Node::Until(ends, hold, reach) => {
-            let wait = Wait::new(number, ends, hold, reach);
-            until(job, register, wait, binding)
-        }
-        Node::ForAll(variable, bound, body) => {
-            let range = Range::new(Connective::And, number, variable, bound, body);
-            !any(job, register, range, binding, false)
-        }
-        Node::Exists(variable, bound, body) => {
-            let range = Range::new(Connective::Or, number, variable, bound, body);
-            any(job, register, range, binding, true)
-        }
-    }
+// A register's facts held for ever, one state an hour, for the nodes of a job.
+#[derive(Drop)]
+struct Idling<'a, R> {
+    job: &'a Job,
+    register: &'a R,
 }
 
-// The same of an until with any ends: its second part, and its first too if the lower end is above 0.
-#[cycle(any_node_until)]
-fn until<R: Register>(job: &Job, register: &R, wait: Wait, binding: Binding) -> bool
-    requires hold { wait.hold < wait.node }
-    requires reach { wait.reach < wait.node }
-    ensures { result ≡ keeps job.now (R.Register.meaning register.now) (wait_of job.now wait) binding }
-{
-    if wait.ends.lower.hours == 0 {
-        return node(job, register, wait.reach, binding);
+impl<'a, R: Register> Idling<'a, R> {
+    // Does it keep a goal node under a binding?
+    #[cycle(any_node_until)]
+    fn node(&self, number: usize, binding: Binding) -> bool
+        ensures { result ≡ keeps self.now.job.now (R.Register.meaning self.now.register.now) (node_of self.now.job.now number) binding }
+    {
+        match *node_at(self.job, number) {
+            Node::True => true,
+            Node::Test(atom) => is_fact(self.register, binding, atom),
+            Node::Equal(left, right) => binding.value(left) == binding.value(right),
+            Node::Not(x) => !self.node(x, binding),
+            Node::And(left, right) => self.node(left, binding) && self.node(right, binding),
+            Node::Or(left, right) => self.node(left, binding) || self.node(right, binding),
+            Node::Next(x) => self.node(x, binding),
+            Node::Until(ends, hold, reach) => {
+                self.until(Wait::new(number, ends, hold, reach), binding)
+            }
+            Node::ForAll(variable, bound, body) => {
+                let range = Range::new(Connective::And, number, variable, bound, body);
+                !self.any(range, binding, false)
+            }
+            Node::Exists(variable, bound, body) => {
+                let range = Range::new(Connective::Or, number, variable, bound, body);
+                self.any(range, binding, true)
+            }
+        }
     }
-    if !node(job, register, wait.hold, binding) {
-        return false;
-    }
-    node(job, register, wait.reach, binding)
-}
 
-// Is there an id in range for which the body's answer is the wanted one?
-#[cycle(any_node_until)]
-fn any<R: Register>(job: &Job, register: &R, range: Range, binding: Binding, wanted: bool) -> bool
-    requires { range.body < range.node }
-    ensures { result ≡ keeps_any job.now (R.Register.meaning register.now) wanted range binding }
-{
-    for id in 0..job.ids() {
-        let bound = binding.with(range.variable, id);
-        if is_fact(register, bound, range.bound) {
-            if node(job, register, range.body, bound) == wanted {
+    // Does it keep an until with any ends: its second part, and its first too if the lower end is above 0?
+    #[cycle(any_node_until)]
+    fn until(&self, wait: Wait, binding: Binding) -> bool
+        requires hold { wait.hold < wait.node }
+        requires reach { wait.reach < wait.node }
+        ensures { result ≡ keeps self.now.job.now (R.Register.meaning self.now.register.now) (wait_of self.now.job.now wait) binding }
+    {
+        if wait.ends.lower.hours > 0 && !self.node(wait.hold, binding) {
+            return false;
+        }
+        self.node(wait.reach, binding)
+    }
+
+    // Is there an id in range for which the body's answer is the wanted one?
+    // A `for`, not an `any`: a closure that calls `node` back needs clauses and a measure of its own, longer than the loop.
+    #[cycle(any_node_until)]
+    fn any(&self, range: Range, binding: Binding, wanted: bool) -> bool
+        requires { range.body < range.node }
+        ensures { result ≡ keeps_any self.now.job.now (R.Register.meaning self.now.register.now) wanted range binding }
+    {
+        for id in 0..self.job.ids() {
+            let bound = binding.with(range.variable, id);
+            if is_fact(self.register, bound, range.bound)
+                && self.node(range.body, bound) == wanted
+            {
                 return true;
             }
         }
+        false
     }
-    false
-}
 
-// The same of a pending part.
-fn pending<R: Register>(
-    job: &Job,
-    register: &R,
-    number: usize,
-    binding: Binding,
-    ends: Ends,
-) -> bool
-    ensures { result ≡ keeps job.now (R.Register.meaning register.now) (with_ends ends (node_of job.now number)) binding }
-{
-    match *node_at(job, number) {
-        Node::Until(_, hold, reach) => {
-            let wait = Wait::new(number, ends, hold, reach);
-            until(job, register, wait, binding)
+    // Does it keep a pending part?
+    fn pending(&self, number: usize, binding: Binding, ends: Ends) -> bool
+        ensures { result ≡ keeps self.now.job.now (R.Register.meaning self.now.register.now) (with_ends ends (node_of self.now.job.now number)) binding }
+    {
+        match *node_at(self.job, number) {
+            Node::Until(_, hold, reach) => {
+                self.until(Wait::new(number, ends, hold, reach), binding)
+            }
+            _ => self.node(number, binding),
         }
-        _ => node(job, register, number, binding),
     }
-}
 
-// The same of one part, from the answers for its own parts.
-fn one_part<R: Register>(job: &Job, register: &R, part: Part, gave: &Vec<bool>) -> bool
-    requires { before (length gave.now.items) part ≡ true }
-    ensures { result ≡ keeps_part job.now (R.Register.meaning register.now) gave.now.items part }
-{
-    match part {
-        Part::True => true,
-        Part::False => false,
-        Part::Pending {
-            node,
-            binding,
-            ends,
-        } => pending(job, register, node, binding, ends),
-        Part::Not(x) => !gave[x],
-        Part::And(x, y) => gave[x] && gave[y],
-        Part::Or(x, y) => gave[x] || gave[y],
+    // Does it keep a part, from the answers for its own parts?
+    fn one_part(&self, part: Part, gave: &[bool]) -> bool
+        requires { before (length gave.now) part ≡ true }
+        ensures { result ≡ keeps_part self.now.job.now (R.Register.meaning self.now.register.now) gave.now part }
+    {
+        match part {
+            Part::True => true,
+            Part::False => false,
+            Part::Pending {
+                node,
+                binding,
+                ends,
+            } => self.pending(node, binding, ends),
+            Part::Not(x) => !gave[x],
+            Part::And(x, y) => gave[x] && gave[y],
+            Part::Or(x, y) => gave[x] || gave[y],
+        }
     }
-}
 
-// The answers for every part of a label, each once and in the order of its table.
-fn every_part<R: Register>(label: &Label, job: &Job, register: &R, gave: &mut Vec<bool>)
-    requires { length (parts_in label.now.table) ≤ vec_len gave.old }
-    ensures len { vec_len gave.new ≡ vec_len gave.old }
-    ensures gave { (k : ℕ) → Stands label.now.table k → slice_index_or gave.new.items k false ≡ keeps_label job.now (R.Register.meaning register.now) (label_in label.now.table k) }
-{
-    for k in 0..label.table.len() {
-        let keeps = one_part(job, register, label.table.part(k), gave);
-        gave[k] = keeps;
+    // The answers for every part of a label, each once and in the order of its table.
+    fn every_part(&self, label: &Label, gave: &mut [bool])
+        requires { length (parts_in label.now.table) ≤ length gave.old }
+        ensures { (k : ℕ) → Stands label.now.table k → slice_index_or gave.new k false ≡ keeps_label self.now.job.now (R.Register.meaning self.now.register.now) (label_in label.now.table k) }
+    {
+        for (k, part) in label.table.parts().iter().enumerate() {
+            gave[k] = self.one_part(*part, gave);
+        }
     }
 }
 
@@ -154,7 +141,8 @@ impl Label {
         if !is_known(job, self) {
             return Err(LabelRefusal::OtherJob);
         }
-        every_part(self, job, register, &mut workspace.marks);
-        Ok(workspace.marks[self.root])
+        let gave = workspace.marks.as_mut_slice();
+        Idling { job, register }.every_part(self, gave);
+        Ok(gave[self.root])
     }
 }

@@ -1,6 +1,6 @@
 ghost use Rattle.std.specs.Prelude.{◌≡◌};
 ghost use Rattle.labels.specs.Goals.{node_ends};
-ghost use Rattle.labels.specs.Progress.{passed, later, upper_less};
+ghost use Rattle.labels.specs.Progress.{less, passed, later};
 
 use goals::goal::{Ends, Node};
 use goals::time::Span;
@@ -22,20 +22,15 @@ pub fn own_ends(node: &Node) -> Ends
 pub fn is_passed(span: Span, upper: Option<Span>) -> bool
     ensures { result ≡ passed span.hours upper }
 {
-    match upper {
-        Some(end) => end.hours < span.hours,
-        None => false,
-    }
+    upper.is_some_and(|end| end.hours < span.hours)
 }
 
-fn upper_after(span: Span, upper: Option<Span>) -> Option<Span>
-    ensures { result ≡ upper_less span.hours upper }
+// An end as it stands a span later.
+fn end_after(span: Span, end: Span) -> Span
+    ensures { result ≡ less span.hours end }
 {
-    match upper {
-        Some(end) => Some(Span {
-            hours: end.hours.saturating_sub(span.hours),
-        }),
-        None => None,
+    Span {
+        hours: end.hours.saturating_sub(span.hours),
     }
 }
 
@@ -44,9 +39,7 @@ pub fn ends_after(span: Span, ends: Ends) -> Ends
     ensures { result ≡ later span.hours ends }
 {
     Ends {
-        lower: Span {
-            hours: ends.lower.hours.saturating_sub(span.hours),
-        },
-        upper: upper_after(span, ends.upper),
+        lower: end_after(span, ends.lower),
+        upper: ends.upper.map(|end| end_after(span, end)),
     }
 }

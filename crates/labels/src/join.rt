@@ -1,6 +1,4 @@
-ghost use Rattle.std.specs.Prelude.{◌≡◌, true, false, ◌≢◌};
-ghost use Rattle.labels.specs.Labels.{true_label, false_label};
-ghost use Rattle.labels.specs.Joining.{negate as negated, conjoin as conjoined, disjoin as disjoined};
+ghost use Rattle.labels.specs.Joining.{negate as negated};
 ghost use Rattle.labels.specs.Connectives.{join_by, start_of};
 ghost use Rattle.labels.specs.Progress.{settled};
 ghost use Rattle.labels.specs.TableView.{label_in, Stands, Adds};
@@ -10,45 +8,17 @@ use crate::part::Part;
 use crate::table::{Full, Table};
 
 // The simplified joinings of labels of a table, by their places.
-impl Table {
-    pub fn is_true(&self, place: usize) -> bool
-        requires { Stands self.now place }
-        ensures yes { result ≡ true → label_in self.now place ≡ true_label }
-        ensures no { result ≡ false → label_in self.now place ≢ true_label }
-    {
-        match self.part(place) {
-            Part::True => true,
-            _ => false,
-        }
-    }
-
-    pub fn is_false(&self, place: usize) -> bool
-        requires { Stands self.now place }
-        ensures yes { result ≡ true → label_in self.now place ≡ false_label }
-        ensures no { result ≡ false → label_in self.now place ≢ false_label }
-    {
-        match self.part(place) {
-            Part::False => true,
-            _ => false,
-        }
-    }
-
+impl<const LIMIT: usize> Table<LIMIT> {
     // A truth, as TRUE or FALSE.
     pub fn settle(&mut self, truth: bool) -> Result<usize, Full>
-        ensures limit { self.new.limit ≡ self.old.limit }
-        ensures outcome { Adds self.old self.new (settled truth) result }
+        ensures { Adds self.old self.new (settled truth) result }
     {
-        if truth {
-            self.add(Part::True)
-        } else {
-            self.add(Part::False)
-        }
+        self.add(if truth { Part::True } else { Part::False })
     }
 
     pub fn negate(&mut self, place: usize) -> Result<usize, Full>
         requires { Stands self.old place }
-        ensures limit { self.new.limit ≡ self.old.limit }
-        ensures outcome { Adds self.old self.new (negated (label_in self.old place)) result }
+        ensures { Adds self.old self.new (negated (label_in self.old place)) result }
     {
         match self.part(place) {
             Part::True => self.add(Part::False),
@@ -58,74 +28,33 @@ impl Table {
         }
     }
 
-    pub fn conjoin(&mut self, i: usize, j: usize) -> Result<usize, Full>
-        requires left { Stands self.old i }
-        requires right { Stands self.old j }
-        ensures limit { self.new.limit ≡ self.old.limit }
-        ensures outcome { Adds self.old self.new (conjoined (label_in self.old i) (label_in self.old j)) result }
-    {
-        if self.is_false(i) {
-            return Ok(i);
-        }
-        if self.is_false(j) {
-            return Ok(j);
-        }
-        if self.is_true(i) {
-            return Ok(j);
-        }
-        if self.is_true(j) {
-            return Ok(i);
-        }
-        if i == j {
-            return Ok(i);
-        }
-        self.add(Part::And(i, j))
-    }
-
-    pub fn disjoin(&mut self, i: usize, j: usize) -> Result<usize, Full>
-        requires left { Stands self.old i }
-        requires right { Stands self.old j }
-        ensures limit { self.new.limit ≡ self.old.limit }
-        ensures outcome { Adds self.old self.new (disjoined (label_in self.old i) (label_in self.old j)) result }
-    {
-        if self.is_true(i) {
-            return Ok(i);
-        }
-        if self.is_true(j) {
-            return Ok(j);
-        }
-        if self.is_false(i) {
-            return Ok(j);
-        }
-        if self.is_false(j) {
-            return Ok(i);
-        }
-        if i == j {
-            return Ok(i);
-        }
-        self.add(Part::Or(i, j))
-    }
-
+    // Two labels joined, by the first rule that fits.
     pub fn join(&mut self, by: Connective, i: usize, j: usize) -> Result<usize, Full>
         requires left { Stands self.old i }
         requires right { Stands self.old j }
-        ensures limit { self.new.limit ≡ self.old.limit }
-        ensures outcome { Adds self.old self.new (join_by by (label_in self.old i) (label_in self.old j)) result }
+        ensures { Adds self.old self.new (join_by by (label_in self.old i) (label_in self.old j)) result }
     {
-        match by {
-            Connective::And => self.conjoin(i, j),
-            Connective::Or => self.disjoin(i, j),
+        let left = self.part(i);
+        let right = self.part(j);
+        if left == by.absorbing() {
+            return Ok(i);
         }
+        if right == by.absorbing() {
+            return Ok(j);
+        }
+        if left == by.neutral() {
+            return Ok(j);
+        }
+        if right == by.neutral() || i == j {
+            return Ok(i);
+        }
+        self.add(by.joined(i, j))
     }
 
     // The label from which a quantifier joins.
     pub fn start(&mut self, by: Connective) -> Result<usize, Full>
-        ensures limit { self.new.limit ≡ self.old.limit }
-        ensures outcome { Adds self.old self.new (start_of by) result }
+        ensures { Adds self.old self.new (start_of by) result }
     {
-        match by {
-            Connective::And => self.add(Part::True),
-            Connective::Or => self.add(Part::False),
-        }
+        self.add(by.neutral())
     }
 }

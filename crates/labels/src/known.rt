@@ -11,8 +11,9 @@ fn is_known_part(part: Part, nodes: usize, ids: u16) -> bool
     ensures { result ≡ known_part nodes ids part }
 {
     match part {
-        Part::Pending { node, binding, .. } => node < nodes
-            && (binding.outer < ids && binding.inner < ids),
+        Part::Pending { node, binding, .. } => {
+            node < nodes && (binding.outer < ids && binding.inner < ids)
+        }
         _ => true,
     }
 }
@@ -23,10 +24,9 @@ pub fn is_known(job: &Job, label: &Label) -> bool
 {
     let nodes = job.node_count();
     let ids = job.ids();
-    for k in 0..label.table.len() {
-        if !is_known_part(label.table.part(k), nodes, ids) {
-            return false;
-        }
-    }
-    true
+    label
+        .table
+        .parts()
+        .iter()
+        .all(|part| is_known_part(*part, nodes, ids))
 }

@@ -11,9 +11,8 @@ pub const LARGEST: usize = 512;
 // A label: a table of its distinct parts, each behind its own, and the place of the label itself.
 #[derive(Drop)]
 pub struct Label {
-    pub(crate) table: Table,
+    pub(crate) table: Table<LARGEST>,
     pub(crate) root: usize,
-    ghost roomy: { table.limit ≡ 512 },
     ghost inside: { root < length table.items.items },
     ghost only: { OnlyParts table.items.items root },
     ghost ordered: { ordered_label (label_at table.items.items root) ≡ true },
@@ -22,14 +21,13 @@ pub struct Label {
 // Room for a label.
 #[derive(Drop)]
 pub struct LabelRoom {
-    pub(crate) table: Table,
-    ghost roomy: { table.limit ≡ 512 },
+    pub(crate) table: Table<LARGEST>,
     ghost empty: { length table.items.items ≡ 0 },
 }
 
 impl LabelRoom {
     pub fn new(heap: Global) -> Result<LabelRoom, AllocError> {
-        let table = Table::new(heap, LARGEST)?;
+        let table = Table::new(heap)?;
         Ok(LabelRoom { table })
     }
 }

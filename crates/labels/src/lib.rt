@@ -3,7 +3,6 @@
 
 pub mod binding;
 mod compact;
-mod compare;
 mod connective;
 mod each;
 mod hash;

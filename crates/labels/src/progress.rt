@@ -4,50 +4,32 @@ ghost use Rattle.labels.specs.LabelCalls.{label_of, progress_answer, after_progr
 ghost use Rattle.labels.specs.LabelTruth.{Carries};
 
 use crate::compact::{copy, mark};
-use crate::each::every_part;
 use crate::known::is_known;
 use crate::label::Label;
 use crate::refusal::LabelRefusal;
+use crate::walk::Step;
 use crate::workspace::Workspace;
 use goals::job::Job;
 use goals::time::Span;
 use registers::register::Register;
 use std::mem::swap;
 
-// Works out the progress of a label into a table of the workspace.
-fn work_out<R: Register>(
-    label: &Label,
-    workspace: &mut Workspace,
-    job: &Job,
-    register: &R,
-    span: Span,
-) -> Result<usize, LabelRefusal>
-    ensures { WorksOut job.now (R.Register.meaning register.now) span (label_of label.now) workspace.new.fresh result }
-{
-    workspace.work.clear();
-    match every_part(
-        &mut workspace.work,
-        job,
-        register,
-        span,
-        &label.table,
-        &mut workspace.places,
-    ) {
-        Err(_) => return Err(LabelRefusal::TooMuchWork),
-        Ok(_) => {}
-    }
-    let top = workspace.places[label.root];
-    mark(&workspace.work, top, &mut workspace.marks);
-    workspace.fresh.clear();
-    match copy(
-        &workspace.work,
-        top,
-        &workspace.marks,
-        &mut workspace.places,
-        &mut workspace.fresh,
-    ) {
-        Err(_) => Err(LabelRefusal::TooLong),
-        Ok(root) => Ok(root),
+impl<'a, R: Register> Step<'a, R> {
+    // Works out the progress of a label into a table of the workspace.
+    fn work_out(&self, label: &Label, workspace: &mut Workspace) -> Result<usize, LabelRefusal>
+        ensures { WorksOut self.now.job.now (R.Register.meaning self.now.register.now) self.now.span (label_of label.now) workspace.new.fresh result }
+    {
+        let places = workspace.places.as_mut_slice();
+        let marks = workspace.marks.as_mut_slice();
+        workspace.work.clear();
+        self.every_part(&mut workspace.work, &label.table, places)
+            .map_err(|_| LabelRefusal::TooMuchWork)?;
+        let top = places[label.root];
+        mark(&workspace.work, top, marks);
+        workspace.fresh.clear();
+        copy(&workspace.work, top, marks, places, &mut workspace.fresh).map_err(
+            |_| LabelRefusal::TooLong,
+        )
     }
 }
 
@@ -67,7 +49,12 @@ impl Label {
         if !is_known(job, self) {
             return Err(LabelRefusal::OtherJob);
         }
-        let root = work_out(self, workspace, job, register, span)?;
+        let step = Step {
+            job,
+            register,
+            span,
+        };
+        let root = step.work_out(self, workspace)?;
         swap(&mut self.table, &mut workspace.fresh);
         self.root = root;
         Ok(())

@@ -2,7 +2,7 @@ ghost use Rattle.std.specs.Prelude.{◌≡◌};
 ghost use Rattle.labels.specs.RefusalNumbers.{number_of};
 
 // Why a label was not progressed or judged.
-#[derive(Clone, Copy)]
+#[derive(Clone, Copy, PartialEq, Eq, Debug)]
 pub enum LabelRefusal {
     // A pending part names a node that the job lacks, or an id that it lacks.
     OtherJob,

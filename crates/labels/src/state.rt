@@ -1,5 +1,5 @@
 // Whether a label is settled, and how.
-#[derive(Clone, Copy)]
+#[derive(Clone, Copy, PartialEq, Eq, Debug)]
 pub enum LabelState {
     True,
     False,

@@ -1,10 +1,9 @@
-ghost use Rattle.std.specs.Prelude.{◌≡◌, ℕ, ◌<◌, ◌≤◌, true, false, [], ◌∷◌, length, IfOk, vec_len, vec_capacity, slice_index, slice_index_or};
+ghost use Rattle.std.specs.Prelude.{◌≡◌, ◌≢◌, ℕ, ◌<◌, ◌≤◌, true, [], ◌∷◌, length, IfOk, MatchOption, vec_len, vec_capacity, slice_index_or};
 ghost use Rattle.labels.specs.declared.part.Part.TheVariants.{True};
 ghost use Rattle.labels.specs.Chains.{Latest, Linked, HeadsIn, HeadsOf, FallsIn, FallsOf};
 ghost use Rattle.labels.specs.Table.{composed, label_at, before, InOrder, NoTwins};
 ghost use Rattle.labels.specs.Growth.{Added};
 
-use crate::compare::same_part;
 use crate::hash::{BUCKETS, hash};
 use crate::part::Part;
 use std::alloc::{AllocError, Global};
@@ -13,21 +12,20 @@ use std::alloc::{AllocError, Global};
 #[derive(Clone, Copy)]
 pub struct Full;
 
-// Distinct parts, each behind its own, up to a limit; parts are found by chains, one for each bucket of a hash.
+// At most LIMIT distinct parts, each behind its own; parts are found by chains, one for each bucket of a hash.
+// A Vec of parts and one of links, not one of pairs: the parts are then a list that every definition reads as it is.
 #[derive(Drop)]
-pub struct Table {
+pub struct Table<const LIMIT: usize> {
     items: Vec<Part>,
-    heads: Vec<usize>,
-    next: Vec<usize>,
-    limit: usize,
-    ghost small: { limit ≤ 4096 },
-    ghost room: { limit ≤ vec_capacity items },
-    ghost few: { vec_len items ≤ limit },
+    heads: Vec<Option<usize>>,
+    next: Vec<Option<usize>>,
+    ghost room: { LIMIT ≤ vec_capacity items },
+    ghost few: { vec_len items ≤ LIMIT },
     ghost order: { InOrder items.items },
     ghost twins: { NoTwins items.items },
     ghost buckets: { vec_len heads ≡ 1024 },
     ghost beside: { vec_len next ≡ vec_len items },
-    ghost spare: { limit ≤ vec_capacity next },
+    ghost spare: { LIMIT ≤ vec_capacity next },
     ghost latest: { Latest items.items heads.items },
     ghost linked: { Linked items.items next.items },
     ghost inside: { HeadsIn items.items heads.items },
@@ -36,21 +34,16 @@ pub struct Table {
     ghost alongside: { FallsOf items.items next.items },
 }
 
-impl Table {
-    // An empty table with room for so many parts.
-    pub fn new(heap: Global, limit: usize) -> Result<Table, AllocError>
-        requires { limit ≤ 4096 }
-        ensures { IfOk result (λ t. (t.items.items ≡ []) × (t.limit ≡ limit)) }
+impl<const LIMIT: usize> Table<LIMIT> {
+    // An empty table.
+    pub fn new(heap: Global) -> Result<Table<LIMIT>, AllocError>
+        requires { LIMIT ≤ 4096 }
+        ensures { IfOk result (λ t. t.items.items ≡ []) }
     {
-        let items = Vec::with_capacity(heap, limit)?;
-        let heads = vec![in heap; 0usize; BUCKETS]?;
-        let next = Vec::with_capacity(heap, limit)?;
-        Ok(Table {
-            items,
-            heads,
-            next,
-            limit,
-        })
+        let items = Vec::with_capacity(heap, LIMIT)?;
+        let heads = vec![in heap; None; BUCKETS]?;
+        let next = Vec::with_capacity(heap, LIMIT)?;
+        Ok(Table { items, heads, next })
     }
 
     // How many parts there are.
@@ -58,6 +51,13 @@ impl Table {
         ensures { result ≡ length self.now.items.items }
     {
         self.items.len()
+    }
+
+    // The parts, each behind its own.
+    pub fn parts(&self) -> &[Part]
+        ensures { result.now ≡ self.now.items.items }
+    {
+        self.items.as_slice()
     }
 
     // The part at a place.
@@ -68,61 +68,46 @@ impl Table {
         self.items[place]
     }
 
-    // Where the part stands, or the number of parts.
-    fn find(&self, part: Part) -> usize
-        ensures within { result ≤ length self.now.items.items }
-        ensures there { result < length self.now.items.items → slice_index_or self.now.items.items result True ≡ part }
-        ensures none { length self.now.items.items ≤ result → (k : ℕ) → k < length self.now.items.items → slice_index_or self.now.items.items k True ≡ part → ⊥ }
+    // Where the part stands.
+    fn find(&self, part: Part) -> Option<usize>
+        ensures { MatchOption result ((k : ℕ) → k < length self.now.items.items → slice_index_or self.now.items.items k True ≢ part) (λ k. (k < length self.now.items.items) × (slice_index_or self.now.items.items k True ≡ part)) }
     {
-        let mut at = self.heads[hash(part)];
-        while at > 0 {
-            if same_part(self.items[at - 1], part) {
-                return at - 1;
+        let mut link = self.heads[hash(part)];
+        while let Some(at) = link {
+            if self.items[at] == part {
+                return Some(at);
             }
-            at = self.next[at - 1];
+            link = self.next[at];
         }
-        self.items.len()
+        None
     }
 
     // Finds the part or adds it, and tells where it stands.
     pub fn add(&mut self, part: Part) -> Result<usize, Full>
         requires { before (length self.old.items.items) part ≡ true }
-        ensures limit { self.new.limit ≡ self.old.limit }
-        ensures outcome { Added self.old.limit self.old.items.items self.new.items.items (composed (label_at self.old.items.items) part) result }
+        ensures { Added LIMIT self.old.items.items self.new.items.items (composed (label_at self.old.items.items) part) result }
     {
-        let n = self.items.len();
-        let at = self.find(part);
-        if at < n {
-            return Ok(at);
+        if let Some(place) = self.find(part) {
+            return Ok(place);
         }
-        if n >= self.limit {
+        let n = self.items.len();
+        if n >= LIMIT {
             return Err(Full);
         }
-        let h = hash(part);
-        let last = self.heads[h];
+        let bucket = hash(part);
+        let last = self.heads[bucket];
         self.items.push_reserved(part);
         self.next.push_reserved(last);
-        self.heads[h] = n + 1;
+        self.heads[bucket] = Some(n);
         Ok(n)
     }
 
     // Empties the table.
     pub fn clear(&mut self)
-        ensures limit { self.new.limit ≡ self.old.limit }
-        ensures items { self.new.items.items ≡ [] }
+        ensures { self.new.items.items ≡ [] }
     {
         self.items.clear();
         self.next.clear();
-        clear_heads(&mut self.heads);
-    }
-}
-
-fn clear_heads(heads: &mut Vec<usize>)
-    requires { vec_len heads.old ≡ 1024 }
-    ensures len { vec_len heads.new ≡ 1024 }
-    ensures none { (b : ℕ) → slice_index heads.new.items b ≡ 0 }
-{
-    for b in 0..BUCKETS {
-        heads[b] = 0;
+        self.heads.fill(None);
     }
 }

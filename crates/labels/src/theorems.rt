@@ -1,20 +1,6 @@
-ghost use Rattle.labels.specs.Claims.{TruthIsTwoValued};
-ghost use Rattle.labels.specs.Claims.{SimplifyingKeepsMeaning};
-ghost use Rattle.labels.specs.Claims.{Progression};
-ghost use Rattle.labels.specs.Claims.{IdlingIsTruthOnCopies};
-ghost use Rattle.labels.specs.Claims.{EndsStayInOrder};
-ghost use Rattle.labels.specs.Claims.{LabelsStayKnown};
-ghost use Rattle.labels.specs.Claims.{LabelStandsForGoal};
-ghost use Rattle.labels.specs.Claims.{RunsAreTimed};
-ghost use Rattle.labels.specs.Claims.{IdlingJudgesTheModel};
+ghost use Rattle.labels.specs.Claims.{TruthIsTwoValued, SimplifyingKeepsMeaning, Progression, IdlingIsTruthOnCopies, EndsStayInOrder, LabelsStayKnown, LabelStandsForGoal, RunsAreTimed, IdlingJudgesTheModel};
 ghost use Rattle.labels.specs.Examples.{WorkedExamples};
-ghost use Rattle.labels.specs.TableClaims.{SameMeansEqual};
-ghost use Rattle.labels.specs.TableClaims.{UniqueListsCount};
-ghost use Rattle.labels.specs.TableClaims.{LabelsStandOnce};
-ghost use Rattle.labels.specs.TableClaims.{TablesTellSize};
-ghost use Rattle.labels.specs.TableClaims.{WorkGoesByParts};
-ghost use Rattle.labels.specs.TableClaims.{GrowthTellsSize};
-ghost use Rattle.labels.specs.TableClaims.{GrowthTellsWork};
+ghost use Rattle.labels.specs.TableClaims.{SameMeansEqual, UniqueListsCount, LabelsStandOnce, TablesTellSize, WorkGoesByParts, GrowthTellsSize, GrowthTellsWork};
 
 // What is not untrue at a state is true there, of a goal node and of a label.
 pub fn truth_is_two_valued()

@@ -10,10 +10,13 @@ use crate::interval::{ends_after, is_passed, own_ends};
 use crate::part::Part;
 use crate::read::{is_fact, node_at};
 use crate::table::{Full, Table};
+use crate::workspace::MOST_WORK;
 use goals::goal::{Atom, Ends, Node, Variable};
 use goals::job::Job;
 use goals::time::Span;
 use registers::register::Register;
+
+// Pairs, waits and ranges are made by `new`: a literal takes a line for each field, and `node` would pass 40 lines.
 
 // An "and" or an "or" of a goal, by its number and those of its parts.
 #[derive(Clone, Copy)]
@@ -84,9 +87,13 @@ impl Range {
 }
 
 // A goal node, pending with its own ends.
-pub fn waiting(table: &mut Table, job: &Job, number: usize, binding: Binding) -> Result<usize, Full>
-    ensures limit { table.new.limit ≡ table.old.limit }
-    ensures outcome { Adds table.old table.new (waiting_of (node_of job.now number) binding) result }
+pub fn waiting(
+    table: &mut Table<MOST_WORK>,
+    job: &Job,
+    number: usize,
+    binding: Binding,
+) -> Result<usize, Full>
+    ensures { Adds table.old table.new (waiting_of (node_of job.now number) binding) result }
 {
     let ends = own_ends(node_at(job, number));
     table.add(Part::Pending {
@@ -98,14 +105,13 @@ pub fn waiting(table: &mut Table, job: &Job, number: usize, binding: Binding) ->
 
 // What is left of an until after the span.
 pub fn rest(
-    table: &mut Table,
+    table: &mut Table<MOST_WORK>,
     span: Span,
     node: usize,
     binding: Binding,
     ends: Ends,
 ) -> Result<usize, Full>
-    ensures limit { table.new.limit ≡ table.old.limit }
-    ensures outcome { Adds table.old table.new (rest_of span.hours node binding ends) result }
+    ensures { Adds table.old table.new (rest_of span.hours node binding ends) result }
 {
     if is_passed(span, ends.upper) {
         return table.add(Part::False);
@@ -118,132 +124,126 @@ pub fn rest(
     })
 }
 
-// The progress of a goal node under a binding, at the register's facts, over the span.
-// An arm is `Ok(..?)` and not the call alone: compiled, a `Result` that is passed on whole is copied slowly.
-#[cycle(joined_negated_node_quantified_until)]
-pub fn node<R: Register>(
-    table: &mut Table,
-    job: &Job,
-    register: &R,
-    span: Span,
-    number: usize,
-    binding: Binding,
-) -> Result<usize, Full>
-    ensures limit { table.new.limit ≡ table.old.limit }
-    ensures outcome { Walks job.now (R.Register.meaning register.now) span table.old table.new (node_of job.now number) binding result }
-{
-    match *node_at(job, number) {
-        Node::True => Ok(table.settle(true)?),
-        Node::Test(atom) => Ok(table.settle(is_fact(register, binding, atom))?),
-        Node::Equal(left, right) => Ok(table.settle(binding.value(left) == binding.value(right))?),
-        Node::Not(x) => Ok(negated(table, job, register, span, x, binding)?),
-        Node::And(left, right) => {
-            let pair = Pair::new(Connective::And, number, left, right);
-            Ok(joined(table, job, register, span, pair, binding)?)
-        }
-        Node::Or(left, right) => {
-            let pair = Pair::new(Connective::Or, number, left, right);
-            Ok(joined(table, job, register, span, pair, binding)?)
-        }
-        Node::Next(x) => Ok(waiting(table, job, x, binding)?),
-        Node::Until(ends, hold, reach) => {
-            let wait = Wait::new(number, ends, hold, reach);
-            Ok(until(table, job, register, span, wait, binding)?)
-        }
-        Node::ForAll(variable, bound, body) => {
-            let range = Range::new(Connective::And, number, variable, bound, body);
-            Ok(quantified(table, job, register, span, range, binding)?)
-        }
-        Node::Exists(variable, bound, body) => {
-            let range = Range::new(Connective::Or, number, variable, bound, body);
-            Ok(quantified(table, job, register, span, range, binding)?)
+// What a step is worked out by: the job, the register that has the facts before it, and its span.
+#[derive(Drop)]
+pub struct Step<'a, R> {
+    pub job: &'a Job,
+    pub register: &'a R,
+    pub span: Span,
+}
+
+impl<'a, R: Register> Step<'a, R> {
+    // The progress of a goal node under a binding, at the register's facts, over the span.
+    #[cycle(joined_negated_node_quantified_until)]
+    pub fn node(
+        &self,
+        table: &mut Table<MOST_WORK>,
+        number: usize,
+        binding: Binding,
+    ) -> Result<usize, Full>
+        ensures { Walks self.now.job.now (R.Register.meaning self.now.register.now) self.now.span table.old table.new (node_of self.now.job.now number) binding result }
+    {
+        match *node_at(self.job, number) {
+            Node::True => table.settle(true),
+            Node::Test(atom) => table.settle(is_fact(self.register, binding, atom)),
+            Node::Equal(left, right) => table.settle(binding.value(left) == binding.value(right)),
+            Node::Not(x) => self.negated(table, x, binding),
+            Node::And(left, right) => {
+                let pair = Pair::new(Connective::And, number, left, right);
+                self.joined(table, pair, binding)
+            }
+            Node::Or(left, right) => {
+                let pair = Pair::new(Connective::Or, number, left, right);
+                self.joined(table, pair, binding)
+            }
+            Node::Next(x) => waiting(table, self.job, x, binding),
+            Node::Until(ends, hold, reach) => {
+                let wait = Wait::new(number, ends, hold, reach);
+                self.until(table, wait, binding)
+            }
+            Node::ForAll(variable, bound, body) => {
+                let range = Range::new(Connective::And, number, variable, bound, body);
+                self.quantified(table, range, binding)
+            }
+            Node::Exists(variable, bound, body) => {
+                let range = Range::new(Connective::Or, number, variable, bound, body);
+                self.quantified(table, range, binding)
+            }
         }
     }
-}
 
-// The progress of a node, negated.
-#[cycle(joined_negated_node_quantified_until)]
-fn negated<R: Register>(
-    table: &mut Table,
-    job: &Job,
-    register: &R,
-    span: Span,
-    number: usize,
-    binding: Binding,
-) -> Result<usize, Full>
-    ensures limit { table.new.limit ≡ table.old.limit }
-    ensures outcome { WalksNot job.now (R.Register.meaning register.now) span table.old table.new number binding result }
-{
-    let p = node(table, job, register, span, number, binding)?;
-    table.negate(p)
-}
-
-// The progress of two parts, joined.
-#[cycle(joined_negated_node_quantified_until)]
-fn joined<R: Register>(
-    table: &mut Table,
-    job: &Job,
-    register: &R,
-    span: Span,
-    pair: Pair,
-    binding: Binding,
-) -> Result<usize, Full>
-    requires left { pair.left < pair.node }
-    requires right { pair.right < pair.node }
-    ensures limit { table.new.limit ≡ table.old.limit }
-    ensures outcome { WalksPair job.now (R.Register.meaning register.now) span table.old table.new pair binding result }
-{
-    let p = node(table, job, register, span, pair.left, binding)?;
-    let q = node(table, job, register, span, pair.right, binding)?;
-    table.join(pair.by, p, q)
-}
-
-// The progress of an until with any ends.
-#[cycle(joined_negated_node_quantified_until)]
-pub fn until<R: Register>(
-    table: &mut Table,
-    job: &Job,
-    register: &R,
-    span: Span,
-    wait: Wait,
-    binding: Binding,
-) -> Result<usize, Full>
-    requires hold { wait.hold < wait.node }
-    requires reach { wait.reach < wait.node }
-    ensures limit { table.new.limit ≡ table.old.limit }
-    ensures outcome { Walks job.now (R.Register.meaning register.now) span table.old table.new (wait_of job.now wait) binding result }
-{
-    let p = node(table, job, register, span, wait.hold, binding)?;
-    let later = rest(table, span, wait.node, binding, wait.ends)?;
-    let q = table.conjoin(p, later)?;
-    if wait.ends.lower.hours > 0 {
-        return Ok(q);
+    // The progress of a node, negated.
+    #[cycle(joined_negated_node_quantified_until)]
+    fn negated(
+        &self,
+        table: &mut Table<MOST_WORK>,
+        number: usize,
+        binding: Binding,
+    ) -> Result<usize, Full>
+        ensures { WalksNot self.now.job.now (R.Register.meaning self.now.register.now) self.now.span table.old table.new number binding result }
+    {
+        let p = self.node(table, number, binding)?;
+        table.negate(p)
     }
-    let reached = node(table, job, register, span, wait.reach, binding)?;
-    table.disjoin(reached, q)
-}
 
-// The progress of a quantifier: the labels of the ids in its range, joined in rising order to the right of the start.
-#[cycle(joined_negated_node_quantified_until)]
-fn quantified<R: Register>(
-    table: &mut Table,
-    job: &Job,
-    register: &R,
-    span: Span,
-    range: Range,
-    binding: Binding,
-) -> Result<usize, Full>
-    requires { range.body < range.node }
-    ensures limit { table.new.limit ≡ table.old.limit }
-    ensures outcome { WalksRange job.now (R.Register.meaning register.now) span table.old table.new range binding result }
-{
-    let mut so_far = table.start(range.by)?;
-    for id in 0..job.ids() {
-        let bound = binding.with(range.variable, id);
-        if is_fact(register, bound, range.bound) {
-            let p = node(table, job, register, span, range.body, bound)?;
-            so_far = table.join(range.by, so_far, p)?;
+    // The progress of two parts, joined.
+    #[cycle(joined_negated_node_quantified_until)]
+    fn joined(
+        &self,
+        table: &mut Table<MOST_WORK>,
+        pair: Pair,
+        binding: Binding,
+    ) -> Result<usize, Full>
+        requires left { pair.left < pair.node }
+        requires right { pair.right < pair.node }
+        ensures { WalksPair self.now.job.now (R.Register.meaning self.now.register.now) self.now.span table.old table.new pair binding result }
+    {
+        let p = self.node(table, pair.left, binding)?;
+        let q = self.node(table, pair.right, binding)?;
+        table.join(pair.by, p, q)
+    }
+
+    // The progress of an until with any ends.
+    #[cycle(joined_negated_node_quantified_until)]
+    pub fn until(
+        &self,
+        table: &mut Table<MOST_WORK>,
+        wait: Wait,
+        binding: Binding,
+    ) -> Result<usize, Full>
+        requires hold { wait.hold < wait.node }
+        requires reach { wait.reach < wait.node }
+        ensures { Walks self.now.job.now (R.Register.meaning self.now.register.now) self.now.span table.old table.new (wait_of self.now.job.now wait) binding result }
+    {
+        let p = self.node(table, wait.hold, binding)?;
+        let later = rest(table, self.span, wait.node, binding, wait.ends)?;
+        let q = table.join(Connective::And, p, later)?;
+        if wait.ends.lower.hours > 0 {
+            return Ok(q);
         }
+        let reached = self.node(table, wait.reach, binding)?;
+        table.join(Connective::Or, reached, q)
     }
-    Ok(so_far)
+
+    // The progress of a quantifier: the labels of the ids in its range, joined in rising order to the right of the start.
+    #[cycle(joined_negated_node_quantified_until)]
+    fn quantified(
+        &self,
+        table: &mut Table<MOST_WORK>,
+        range: Range,
+        binding: Binding,
+    ) -> Result<usize, Full>
+        requires { range.body < range.node }
+        ensures { WalksRange self.now.job.now (R.Register.meaning self.now.register.now) self.now.span table.old table.new range binding result }
+    {
+        let mut so_far = table.start(range.by)?;
+        for id in 0..self.job.ids() {
+            let bound = binding.with(range.variable, id);
+            if is_fact(self.register, bound, range.bound) {
+                let p = self.node(table, range.body, bound)?;
+                so_far = table.join(range.by, so_far, p)?;
+            }
+        }
+        Ok(so_far)
+    }
 }

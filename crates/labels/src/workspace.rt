@@ -11,20 +11,18 @@ pub const MOST_WORK: usize = 4096;
 // the place that its progress or its copy has, and a mark.
 #[derive(Drop)]
 pub struct Workspace {
-    pub(crate) work: Table,
-    pub(crate) fresh: Table,
+    pub(crate) work: Table<MOST_WORK>,
+    pub(crate) fresh: Table<LARGEST>,
     pub(crate) places: Vec<usize>,
     pub(crate) marks: Vec<bool>,
-    ghost wide: { work.limit ≡ 4096 },
-    ghost roomy: { fresh.limit ≡ 512 },
     ghost long: { vec_len places ≡ 4096 },
     ghost beside: { vec_len marks ≡ 4096 },
 }
 
 impl Workspace {
     pub fn new(heap: Global) -> Result<Workspace, AllocError> {
-        let work = Table::new(heap, MOST_WORK)?;
-        let fresh = Table::new(heap, LARGEST)?;
+        let work = Table::new(heap)?;
+        let fresh = Table::new(heap)?;
         let places = vec![in heap; 0usize; MOST_WORK]?;
         let marks = vec![in heap; false; MOST_WORK]?;
         Ok(Workspace {

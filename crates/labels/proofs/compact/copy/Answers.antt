@@ -1,129 +1,77 @@
-use Rattle.std.proofs.Common.{◌≡◌, ℕ, ◌+◌, ◌<◌, ◌≤◌, Bool, false, List, [], ◌∷◌, length, get_or, vec_items, vec_len, Vec, sym, refl, ap, ◌∙◌, subst, arith}
-use Rattle.std.specs.declared.alloc.Global.{Global}
-use Rattle.std.proofs.lemmas.List.{get_or_read}
+use Rattle.std.proofs.Common.{◌≡◌, ℕ, ◌+◌, ◌<◌, Bool, List, [], ◌∷◌, length, set, vec_items, sym, ap, ◌∙◌, subst, arith}
 use Rattle.std.proofs.lemmas.Result.{err_from_is_err_and}
 use Rattle.labels.specs.declared.part.Part.{Part}
-use Rattle.labels.specs.declared.table.Table.{Table}
 use Rattle.labels.specs.Labels.{Label}
 use Rattle.labels.specs.Table.{composed, label_at, before}
-use Rattle.labels.specs.Growth.{Grew, Made, Over}
-use Rattle.labels.specs.Marks.{kept, Copied}
-use Rattle.labels.proofs.Copies.{copy-none, copy-early, copy-label, copy-over, copy_more, copy_skip, copy-all}
-use Rattle.labels.proofs.Walking.{over-limit, stop}
+use Rattle.labels.specs.Growth.{Over}
+use Rattle.labels.proofs.Copies.{copy-none, copy-early, copy-label, copy-over, copy-one, copy_skip, copy-all}
+use Rattle.labels.proofs.Walking.{stop}
 use Rattle.labels.proofs.compact.copy.Goals as goal
-use Rattle.labels.proofs.compact.copy.Goals.{then-index+in_ok-at, else-index}
+use Rattle.labels.proofs.compact.copy.Goals.{else-loop-k-test, then-loop-k-test+else-k-root, then-marks-k+in_ok-to, else-marks-k}
 
 pub loop-k-init : goal.loop-k-init
 loop-k-init c =
-    let t : List Part = vec_items c.args.source.now.items in
-    let order = c.args.source.now.order in
-    let root : ℕ = c.args.root in
-    let rl : root < length t = c.requires.within in
-    let marks : List Bool = vec_items c.args.marks.now in
-    let d₀ : List Part = vec_items c.args.table.now.items in
-    (refl, refl, copy-none t order root rl marks c.requires.marks d₀, λ j l e. absurd (omega arith))
+    let t : List Part = vec_items c.args.source.now.items in (
+      copy-none t c.args.source.now.order c.args.root c.requires.within c.args.marks.now c.requires.marks (vec_items c.args.table.now.items),
+      λ j l e. absurd (omega arith),
+    )
 
 pub add-requires : goal.add-requires
 add-requires c =
     let t : List Part = vec_items c.args.source.now.items in
-    let order = c.args.source.now.order in
-    let root : ℕ = c.args.root in
-    let rl : root < length t = c.requires.within in
-    let marks : List Bool = vec_items c.args.marks.now in
-    let d₀ : List Part = vec_items c.args.table.now.items in
-    let d : List Part = vec_items c.loop-k.table.items in
-    let k : ℕ = c.loop-k.k in
-    let kr : k ≤ root = omega arith in
-    let to : List ℕ = vec_items c.loop-k.to in
-    let v : vec_len c.args.marks.now ≡ length marks = c.args.marks.now.ok.0 in
-    let wide : length t ≤ vec_len c.args.marks.now = c.requires.wide in
-    let here : c.index.result.now ≡ get_or marks k false = get_or_read marks k c.index.result.now (omega arith) c.index.ensures false in
-    ap (before (length d)) c.moved-part.ensures
-    ∙ copy-early t order root rl marks c.requires.marks to d k kr c.loop-k.invariant.3 (sym here ∙ c.if-index.true) c.part.result (sym c.part.ensures)
+    let d : List Part = vec_items c.loop-k.table.items in (
+      omega arith,
+      ap (before (length d)) c.moved.ensures
+          ∙ copy-early t c.args.source.now.order c.args.root c.requires.within c.args.marks.now c.requires.marks c.loop-k.to d c.loop-k.k (omega arith)
+          c.loop-k.invariant.1 c.if-marks-k.true c.part.result (sym c.part.ensures),
+    )
 
-pub returns-in_err-at : goal.returns-in_err-at
-returns-in_err-at c =
+pub returns-in_err-to : goal.returns-in_err-to
+returns-in_err-to c =
     let t : List Part = vec_items c.args.source.now.items in
     let order = c.args.source.now.order in
     let root : ℕ = c.args.root in
-    let rl : root < length t = c.requires.within in
-    let marks : List Bool = vec_items c.args.marks.now in
-    let d₀ : List Part = vec_items c.args.table.now.items in
+    let marks : List Bool = c.args.marks.now in
     let d : List Part = vec_items c.loop-k.table.items in
-    let k : ℕ = c.loop-k.k in
-    let kr : k ≤ root = omega arith in
-    let to : List ℕ = vec_items c.loop-k.to in
-    let v : vec_len c.args.marks.now ≡ length marks = c.args.marks.now.ok.0 in
-    let wide : length t ≤ vec_len c.args.marks.now = c.requires.wide in
-    let here : c.index.result.now ≡ get_or marks k false = get_or_read marks k c.index.result.now (omega arith) c.index.ensures false in
-    let taken = sym here ∙ c.if-index.true in
-    let is : composed (label_at d) c.moved-part.result ≡ label_at t k =
-    ap (composed (label_at d)) c.moved-part.ensures
-    ∙ copy-label t order root rl marks c.requires.marks to d k kr c.loop-k.invariant.3 taken c.part.result (sym c.part.ensures) in
+    let is : composed (label_at d) c.moved.result ≡ label_at t c.loop-k.k =
+    ap (composed (label_at d)) c.moved.ensures
+    ∙ copy-label t order root c.requires.within marks c.requires.marks c.loop-k.to d c.loop-k.k (omega arith) c.loop-k.invariant.1 c.if-marks-k.true c.part.result (sym c.part.ensures) in
     let pr = err_from_is_err_and c.from_residual.result c.from_residual.ensures.1 in
-    record {
-      limit = c.add.ensures.limit ∙ c.loop-k.invariant.0;
-      len = c.loop-k.invariant.1;
-      outcome = stop (vec_items c.add.new.self.items) (label_at t root) (label_at t root ∷ []) c.from_residual.result pr.0 pr.1
-          (copy-over t order root rl marks c.requires.marks k taken c.loop-k.invariant.2
-          (subst (λ (l : Label). Over c.args.table.now.limit d (l ∷ [])) is (over-limit c.loop-k.invariant.0 c.in_err-at.ensures.outcome)));
-    }
+    stop (vec_items c.add.new.self.items) (label_at t root) (label_at t root ∷ []) c.from_residual.result pr.0 pr.1
+    (copy-over t order root c.requires.within marks c.requires.marks c.loop-k.k c.if-marks-k.true c.loop-k.invariant.0
+    (subst (λ (l : Label). Over 512 d (l ∷ [])) is c.in_err-to.ensures))
 
 pub loop-k-preserved : goal.loop-k-preserved
 loop-k-preserved c =
     let t : List Part = vec_items c.args.source.now.items in
     let order = c.args.source.now.order in
-    let root : ℕ = c.args.root in
-    let rl : root < length t = c.requires.within in
-    let marks : List Bool = vec_items c.args.marks.now in
-    let d₀ : List Part = vec_items c.args.table.now.items in
-    let d : List Part = vec_items c.loop-k.table.items in
-    let k : ℕ = c.loop-k.k in
-    let kr : k ≤ root = omega arith in
-    let to : List ℕ = vec_items c.loop-k.to in
-    let v : vec_len c.args.marks.now ≡ length marks = c.args.marks.now.ok.0 in
-    let wide : length t ≤ vec_len c.args.marks.now = c.requires.wide in
-    let here : c.index.result.now ≡ get_or marks k false = get_or_read marks k c.index.result.now (omega arith) c.index.ensures false in
-    let tv : vec_len c.loop-k.to ≡ length to = c.loop-k.to.ok.0 in
-    let same : vec_len c.loop-k.to ≡ vec_len c.args.to.now = c.loop-k.invariant.1 in
-    let room : length t ≤ vec_len c.args.to.now = c.requires.room in
-    let Goes : Table → Vec ℕ Global → Type 0 = λ tb ts.
-    (tb.limit ≡ c.args.table.now.limit) × (vec_len ts ≡ vec_len c.args.to.now)
-    × Grew d₀ (vec_items tb.items) (kept t marks (k + 1)) × Copied t marks (vec_items ts) (vec_items tb.items) (k + 1) in
-    elim c.if-index.branch [
-      | then-index+in_ok-at w ↦
-          let taken = sym here ∙ w.if-index.true in
-          let is : composed (label_at d) w.moved-part.result ≡ label_at t k =
-          ap (composed (label_at d)) w.moved-part.ensures
-          ∙ copy-label t order root rl marks c.requires.marks to d k kr c.loop-k.invariant.3 taken w.part.result (sym w.part.ensures) in
-          let u : List Part = vec_items w.add.new.self.items in
-          let m : Made d u (label_at t k) (label_at t k ∷ []) w.in_ok-at.at =
-          subst (λ (l : Label). Made d u l (l ∷ []) w.in_ok-at.at) is w.in_ok-at.ensures.outcome in
-          let h = copy_more t order root rl marks c.requires.marks to k w.in_ok-at.at taken (omega arith) c.loop-k.invariant.2 c.loop-k.invariant.3 m in
-          subst (λ (tb : Table). Goes tb c.if-index.to) (sym w.table-is)
-          (subst (Goes w.add.new.self) (sym w.to-is) (w.add.ensures.limit ∙ c.loop-k.invariant.0, same, h.0, h.1))
-      | else-index w ↦
-          let h = copy_skip t order root rl marks c.requires.marks to k (sym here ∙ w.if-index.false) c.loop-k.invariant.2 c.loop-k.invariant.3 in
-          subst (λ (tb : Table). Goes tb c.if-index.to) (sym w.table-is)
-          (subst (Goes c.loop-k.table) (sym w.to-is) (c.loop-k.invariant.0, same, h.0, h.1))
+    let marks : List Bool = c.args.marks.now in
+    let within : c.args.root < length t = c.requires.within in
+    elim c.if-marks-k.branch [
+      | then-marks-k+in_ok-to w ↦ rw (w.to-is, w.table-is)
+          (copy-one t order c.args.root within marks c.requires.marks c.loop-k.to c.loop-k.k (omega arith) (omega arith) w.if-marks-k.true
+          c.loop-k.invariant.0 c.loop-k.invariant.1 w.part.result w.moved.result w.part.ensures w.moved.ensures w.in_ok-to.field-0 w.in_ok-to.ensures)
+      | else-marks-k w ↦ rw (w.to-is, w.table-is)
+          (copy_skip t order c.args.root within marks c.requires.marks c.loop-k.to c.loop-k.k w.if-marks-k.false c.loop-k.invariant.0 c.loop-k.invariant.1)
     ]
 
 pub returns : goal.returns
 returns c =
     let t : List Part = vec_items c.args.source.now.items in
     let order = c.args.source.now.order in
-    let root : ℕ = c.args.root in
-    let rl : root < length t = c.requires.within in
-    let marks : List Bool = vec_items c.args.marks.now in
-    let d₀ : List Part = vec_items c.args.table.now.items in
-    let to : List ℕ = vec_items c.loop-k.to in
-    let tv : vec_len c.loop-k.to ≡ length to = c.loop-k.to.ok.0 in
-    let same : vec_len c.loop-k.to ≡ vec_len c.args.to.now = c.loop-k.invariant.1 in
-    let room : length t ≤ vec_len c.args.to.now = c.requires.room in
-    let here : c.index-2.result.now ≡ get_or to root 0 = get_or_read to root c.index-2.result.now (omega arith) c.index-2.ensures 0 in
-    record {
-      limit = c.loop-k.invariant.0;
-      len = same;
-      outcome = subst (Made d₀ (vec_items c.loop-k.table.items) (label_at t root) (label_at t root ∷ [])) (sym here)
-          (copy-all t order root rl marks c.requires.marks to c.loop-k.k (omega arith) c.loop-k.invariant.2 c.loop-k.invariant.3);
-    }
+    let marks : List Bool = c.args.marks.now in
+    let within : c.args.root < length t = c.requires.within in
+    elim c.loop-k-test.branch [
+      | else-loop-k-test w ↦ absurd (omega arith)
+      | then-loop-k-test+else-k-root w ↦ elim w.if-marks-k.branch [
+        | then-marks-k+in_ok-to w' ↦
+            let h = copy-one t order c.args.root within marks c.requires.marks c.loop-k.to c.loop-k.k (omega arith) (omega arith) w'.if-marks-k.true
+            c.loop-k.invariant.0 c.loop-k.invariant.1 w'.part.result w'.moved.result w'.part.ensures w'.moved.ensures w'.in_ok-to.field-0 w'.in_ok-to.ensures in
+            rw (w.to-is, w'.to-is, w.table-is, w'.table-is)
+            (copy-all t order c.args.root within marks c.requires.marks (set c.loop-k.to c.loop-k.k w'.in_ok-to.field-0) (c.loop-k.k + 1) (omega arith) h.0 h.1)
+        | else-marks-k w' ↦
+            let h = copy_skip t order c.args.root within marks c.requires.marks c.loop-k.to c.loop-k.k w'.if-marks-k.false c.loop-k.invariant.0 c.loop-k.invariant.1 in
+            rw (w.to-is, w'.to-is, w.table-is, w'.table-is)
+            (copy-all t order c.args.root within marks c.requires.marks c.loop-k.to (c.loop-k.k + 1) (omega arith) h.0 h.1)
+      ]
+    ]

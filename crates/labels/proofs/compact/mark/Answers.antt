@@ -1,40 +1,39 @@
-use Rattle.std.proofs.Common.{◌≡◌, ℕ, suc, ◌-◌, ◌<◌, ◌≤◌, true, false, List, length, get_or, set, vec_items, vec_len, sym, refl, ◌∙◌, subst, add-one, arith}
-use Rattle.std.proofs.lemmas.List.{get_or_read}
+use Rattle.std.proofs.Common.{◌≡◌, ℕ, suc, ◌<◌, false, Bool, List, length, vec_items, sym, subst, add-one, arith}
+use Rattle.std.proofs.lemmas.List.{length-set}
 use Rattle.labels.specs.declared.part.Part.{Part}
 use Rattle.labels.specs.Marks.{Marking}
-use Rattle.labels.proofs.Copies.{mark-root, mark-more}
+use Rattle.labels.proofs.Filled.{filled}
+use Rattle.labels.proofs.Copies.{mark-root, mark-more, mark-skip}
 use Rattle.labels.proofs.compact.mark.Goals as goal
+use Rattle.labels.proofs.compact.mark.Goals.{then-marks-k, else-marks-k, Joined-marks-k}
 
 pub loop-k-init : goal.loop-k-init
 loop-k-init c =
     let t : List Part = vec_items c.args.source.now.items in
-    let marks = vec_items c.clear.new.marks in
-    let v : vec_len c.clear.new.marks ≡ length marks = c.clear.new.marks.ok.0 in
-    let n : vec_len c.clear.new.marks ≡ vec_len c.args.marks.now = c.clear.ensures.len in
+    let marks : List Bool = c.fill.new.self in
     let w : c.args.root < length t = c.requires.within in
-    let r : length t ≤ vec_len c.args.marks.now = c.requires.room in (
-      omega arith,
-      refl,
-      subst (λ (k : ℕ). Marking t c.args.root k (set marks c.args.root true)) (sym (add-one c.args.root))
-          (mark-root t c.args.source.now.order c.args.root w marks (omega arith) c.clear.ensures.none),
-    )
+    let n : length marks ≡ length c.args.marks.now = c.fill.ensures.len in
+    rw add-one (mark-root t c.args.source.now.order c.args.root w marks (omega arith)
+    (filled marks (length c.args.marks.now) false (c.fill.ensures.after (λ y h. h))))
 
-pub loop-k-preserved-then-index : goal.loop-k-preserved-then-index
-loop-k-preserved-then-index c =
+-- the part at k is seen
+seen : (c : Joined-marks-k) → Marking (vec_items c.args.source.now.items) c.args.root c.loop-k.k c.if-marks-k.marks
+seen c =
     let t : List Part = vec_items c.args.source.now.items in
-    let marks = vec_items c.loop-k.marks in
-    let v : vec_len c.loop-k.marks ≡ length marks = c.loop-k.marks.ok.0 in
-    let n : vec_len c.loop-k.marks ≡ vec_len c.clear.new.marks = c.loop-k.invariant.1 in
-    let n' : vec_len c.clear.new.marks ≡ vec_len c.args.marks.now = c.clear.ensures.len in
-    let w : c.args.root < length t = c.requires.within in
-    let r : length t ≤ vec_len c.args.marks.now = c.requires.room in
-    let le = c.loop-k.invariant.0 in
-    let k : ℕ = c.loop-k.k - 1 in
-    let e : c.loop-k.k ≡ suc k = omega arith in
-    let here : c.index.result.now ≡ get_or marks k false = get_or_read marks k c.index.result.now (omega arith) c.index.ensures false in (
-      omega arith,
-      c.mark_own.ensures.len ∙ n,
-      subst (Marking t c.args.root k) (sym c.mark_own.ensures.marks)
-          (mark-more t c.args.source.now.order c.args.root w marks k (omega arith) (omega arith) (sym here ∙ c.if-index.true)
-          c.part.result (sym c.part.ensures) (subst (λ (j : ℕ). Marking t c.args.root j marks) e c.loop-k.invariant.2)),
-    )
+    let root : ℕ = c.args.root in
+    let k : ℕ = c.loop-k.k in
+    let w : root < length t = c.requires.within in
+    let n : length c.fill.new.self ≡ length c.args.marks.now = c.fill.ensures.len in
+    let m : Marking t root (suc k) c.loop-k.marks = rw add-one at c.loop-k.invariant in
+    elim c.if-marks-k.branch [
+      | then-marks-k w' ↦ rw (w'.marks-is, w'.mark_own.ensures)
+          (mark-more t c.args.source.now.order root w c.loop-k.marks k (omega arith) (omega (arith, length-set {A = Bool})) w'.if-marks-k.true
+          w'.part.result (sym w'.part.ensures) m)
+      | else-marks-k w' ↦ rw w'.marks-is (mark-skip t c.args.source.now.order root w c.loop-k.marks k w'.if-marks-k.false m)
+    ]
+
+pub loop-k-preserved : goal.loop-k-preserved
+loop-k-preserved c = subst (λ (j : ℕ). Marking (vec_items c.args.source.now.items) c.args.root j c.if-marks-k.marks) (omega arith) (seen (goal.at.loop-k-preserved c).Joined-marks-k)
+
+pub returns-after-marks-k : goal.returns-after-marks-k
+returns-after-marks-k c = subst (λ (j : ℕ). Marking (vec_items c.args.source.now.items) c.args.root j c.if-marks-k.marks) (omega arith) (seen (goal.at.returns-after-marks-k c).Joined-marks-k)

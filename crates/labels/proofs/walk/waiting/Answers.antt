@@ -9,8 +9,5 @@ use Rattle.labels.proofs.walk.waiting.Goals as goal
 pub returns : goal.returns
 returns c =
     let e = ap (pending c.args.number c.args.binding) (c.own_ends-ends.ensures ∙ ap node_ends c.node_at.ensures.value) in
-    record {
-      limit = c.add.ensures.limit;
-      outcome = at_label c.args.table.now.limit (vec_items c.args.table.now.items) (vec_items c.add.new.self.items) c.add.result
-          (e ∙ sym (waiting-at (nodes_of c.args.job.now) c.args.number c.args.binding)) c.add.ensures.outcome;
-    }
+    at_label 4096 (vec_items c.args.table.now.items) (vec_items c.add.new.self.items) c.add.result
+    (e ∙ sym (waiting-at (nodes_of c.args.job.now) c.args.number c.args.binding)) c.add.ensures

@@ -41,7 +41,7 @@ returns g c =
     let root = c.in_ok-root.root in
     let new = vec_items c.work_out.new.workspace.fresh.items in
     let e = work_accepted job m D l known new root c.in_ok-root.ensures in
-    let is = ap (λ (tb : Table). label_at (vec_items tb.items) root) c.swap.ensures.x_after
+    let is = ap (λ (tb : Table 512). label_at (vec_items tb.items) root) c.swap.ensures.x_after
     ∙ new-label job m D l known new root c.in_ok-root.ensures in
     record { answer = e; after = is ∙ changed job m D l e; truth = subst (Carries job m D l) (sym is) (carries job m D l) }
 
@@ -57,9 +57,9 @@ invariant_of-self g c =
     let fresh = c.work_out.new.workspace.fresh in
     let w = c.in_ok-root.ensures in
     let is = new-label job m D l known (vec_items fresh.items) root w in
-    let Fine : Table → Type 0 = λ tb.
-    (tb.limit ≡ 512) × (root < length (vec_items tb.items)) × OnlyParts (vec_items tb.items) root
+    let Fine : Table 512 → Type 0 = λ tb.
+    (root < length (vec_items tb.items)) × OnlyParts (vec_items tb.items) root
     × (ordered_label (label_at (vec_items tb.items) root) ≡ true) in
     let fine = subst Fine (sym c.swap.ensures.x_after)
-    (c.work_out.new.workspace.roomy, w.within, w.only, ap ordered_label is ∙ progress-ordered job (sound c.args.job.now) m D l c.args.self.now.ordered) in
-    record { roomy = fine.0; inside = fine.1; only = fine.2; ordered = fine.3 }
+    (w.within, w.only, ap ordered_label is ∙ progress-ordered job (sound c.args.job.now) m D l c.args.self.now.ordered) in
+    record { inside = fine.0; only = fine.1; ordered = fine.2 }

@@ -1,4 +1,4 @@
-use Rattle.std.proofs.Common.{◌≡◌, ℕ, ◌<◌, List, length, get_or, vec_items, sym, refl, ap, ◌∙◌, arith, ltb-true}
+use Rattle.std.proofs.Common.{◌≡◌, ℕ, ◌<◌, List, length, get_or, vec_items, sym, ap, ◌∙◌, arith, ltb-true}
 use Rattle.labels.specs.declared.part.Part.{Part}
 use Rattle.labels.specs.declared.part.Part.TheVariants.{True, False, Not}
 use Rattle.labels.specs.Joining.{negate}
@@ -9,29 +9,23 @@ use Rattle.labels.proofs.Places.{label-at, negate_true, negate_false, negate-not
 use Rattle.labels.proofs.table.Table.negate.Goals as goal
 
 pub returns-in-True : goal.returns-in-True
-returns-in-True c =
+returns-in-True g c =
     let t : List Part = vec_items c.args.self.now.items in
     let i : ℕ = c.args.place in
     let e = label-at t c.args.self.now.order i c.requires True (sym c.in-True.ensures) in
-    record {
-      limit = c.add.ensures.limit;
-      outcome = at_label c.args.self.now.limit t (vec_items c.add.new.self.items) c.add.result
-          (negate_true (label_at t i) e) c.add.ensures.outcome;
-    }
+    at_label g.row.LIMIT t (vec_items c.add.new.self.items) c.add.result
+    (negate_true (label_at t i) e) c.add.ensures
 
 pub returns-in-False : goal.returns-in-False
-returns-in-False c =
+returns-in-False g c =
     let t : List Part = vec_items c.args.self.now.items in
     let i : ℕ = c.args.place in
     let e = label-at t c.args.self.now.order i c.requires False (sym c.in-False.ensures) in
-    record {
-      limit = c.add-in-False.ensures.limit;
-      outcome = at_label c.args.self.now.limit t (vec_items c.add-in-False.new.self.items) c.add-in-False.result
-          (negate_false (label_at t i) e) c.add-in-False.ensures.outcome;
-    }
+    at_label g.row.LIMIT t (vec_items c.add-in-False.new.self.items) c.add-in-False.result
+    (negate_false (label_at t i) e) c.add-in-False.ensures
 
 pub returns-in-Not : goal.returns-in-Not
-returns-in-Not c =
+returns-in-Not g c =
     let t : List Part = vec_items c.args.self.now.items in
     let i : ℕ = c.args.place in
     let x : ℕ = c.in-Not.x in
@@ -39,19 +33,13 @@ returns-in-Not c =
     let e = label-at t c.args.self.now.order i c.requires (Not x) (sym here) in
     let lt : i < length t = c.requires in
     let below : x < i = ltb-true x i (ap (before i) here ∙ c.args.self.now.order i lt) in
-    record {
-      limit = refl;
-      outcome = stands t c.args.self.now.order (negate (label_at t i)) x (omega arith) (negate-not (label_at t i) (label_at t x) e);
-    }
+    stands t c.args.self.now.order (negate (label_at t i)) x (omega arith) (negate-not (label_at t i) (label_at t x) e)
 
 pub returns-in_default : goal.returns-in_default
-returns-in_default c =
+returns-in_default g c =
     let t : List Part = vec_items c.args.self.now.items in
     let i : ℕ = c.args.place in
     let e = negate-at t c.args.self.now.order i c.requires c.part.result (sym c.part.ensures)
     c.in_default.not-True c.in_default.not-False c.in_default.not-Not in
-    record {
-      limit = c.add-in_default.ensures.limit;
-      outcome = at_label c.args.self.now.limit t (vec_items c.add-in_default.new.self.items) c.add-in_default.result
-          (sym e) c.add-in_default.ensures.outcome;
-    }
+    at_label g.row.LIMIT t (vec_items c.add-in_default.new.self.items) c.add-in_default.result
+    (sym e) c.add-in_default.ensures

@@ -9,23 +9,23 @@ use Rattle.labels.specs.Held.{facts_of}
 use Rattle.labels.proofs.Trees.{tree_of, tree-read}
 use Rattle.labels.proofs.Shapes.{keeps_wait}
 use Rattle.labels.proofs.Walking.{with_other}
-use Rattle.labels.proofs.idle.pending.Goals as goal
+use Rattle.labels.proofs.idle.Idling.pending.Goals as goal
 
 pub returns-in-Until : goal.returns-in-Until
 returns-in-Until g c =
-    let N : ℕ = ids_of c.args.job.now in
-    let S : Facts = facts_of (g.R.Register.meaning c.args.register.now) in
-    let nodes : List Node = nodes_of c.args.job.now in
+    let N : ℕ = ids_of c.args.self.now.job.now in
+    let S : Facts = facts_of (g.R.Register.meaning c.args.self.now.register.now) in
+    let nodes : List Node = nodes_of c.args.self.now.job.now in
     let tree = tree-read nodes c.args.number (Until c.in-Until.field-0 c.in-Until.hold c.in-Until.reach)
     c.node_at.ensures.value c.node_at.ensures.below c.in-Until.is in
-    keeps_wait c.args.job.now (g.R.Register.meaning c.args.register.now) c.args.binding c.new-wait.ensures c.until.ensures
+    keeps_wait c.args.self.now.job.now (g.R.Register.meaning c.args.self.now.register.now) c.args.binding c.new.ensures c.until.ensures
     ∙ ap (λ (φ : Goal). idles N S (with_ends c.args.ends φ) c.args.binding) (sym tree)
 
 pub returns-in_default : goal.returns-in_default
 returns-in_default g c =
-    let N : ℕ = ids_of c.args.job.now in
-    let S : Facts = facts_of (g.R.Register.meaning c.args.register.now) in
-    let nodes : List Node = nodes_of c.args.job.now in
+    let N : ℕ = ids_of c.args.self.now.job.now in
+    let S : Facts = facts_of (g.R.Register.meaning c.args.self.now.register.now) in
+    let nodes : List Node = nodes_of c.args.self.now.job.now in
     let nd : Node = c.node_at.result.now in
     let tree = tree_of nodes c.args.number nd (sym c.node_at.ensures.value) c.node_at.ensures.below in
     c.node.ensures

@@ -2,7 +2,7 @@ ghost use Rattle.std.specs.Prelude.{◌≡◌};
 ghost use Rattle.goals.specs.FaultNumbers.{catalogue_number};
 
 // Why a catalogue is refused.
-#[derive(Clone, Copy)]
+#[derive(Clone, Copy, PartialEq, Eq, Debug)]
 pub enum CatalogueFault {
     // A count or a number of places is out of its limits, or a name is malformed or repeated.
     Shape,

@@ -6,7 +6,7 @@ use crate::goal_fault::GoalFault;
 use crate::job_fault::JobFault;
 
 // Why a file has no frame.
-#[derive(Clone, Copy)]
+#[derive(Clone, Copy, PartialEq, Eq, Debug)]
 pub enum FrameFault {
     // Its mark or its version is wrong or missing.
     Mark,
@@ -26,7 +26,7 @@ impl FrameFault {
 }
 
 // Why no job was read from a file: its frame is at fault, or its job, whose goal text begins at the place beside it.
-#[derive(Clone, Copy)]
+#[derive(Clone, Copy, PartialEq, Eq, Debug)]
 pub enum FileFault {
     Frame(FrameFault),
     Job(JobFault, usize),

@@ -6,7 +6,7 @@ use crate::file_fault::FileFault;
 use registers::refusal::Refusal;
 
 // Why a register was not filled from a file.
-#[derive(Clone, Copy)]
+#[derive(Clone, Copy, PartialEq, Eq, Debug)]
 pub enum FillFault {
     // The file itself is at fault.
     File(FileFault),

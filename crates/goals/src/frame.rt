@@ -12,7 +12,7 @@ pub const LONGEST_FILE: usize = 40000;
 pub const PREDICATES_AT: usize = 14;
 
 // The counts of an edition file, and where its sections begin.
-#[derive(Clone, Copy)]
+#[derive(Clone, Copy, PartialEq, Eq, Debug)]
 pub struct Frame {
     pub ids: u8,
     pub predicates: u8,

@@ -1,5 +1,5 @@
 // Why a goal text is refused, with the place of the token at fault.
-#[derive(Clone, Copy)]
+#[derive(Clone, Copy, PartialEq, Eq, Debug)]
 pub enum GoalFault {
     TooLong,
     Follow(usize),

@@ -34,7 +34,7 @@ impl GoalFault {
 }
 
 // Why there is no job: its catalogue or its goal is at fault.
-#[derive(Clone, Copy)]
+#[derive(Clone, Copy, PartialEq, Eq, Debug)]
 pub enum JobFault {
     Catalogue(CatalogueFault),
     Goal(GoalFault),

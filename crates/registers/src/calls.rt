@@ -6,7 +6,7 @@ use crate::refusal::Refusal;
 use crate::register::Register;
 
 // A call on a register, as a value.
-#[derive(Clone, Copy)]
+#[derive(Clone, Copy, PartialEq, Eq, Debug)]
 pub enum Call {
     Holds(Fact),
     Size,
@@ -16,7 +16,7 @@ pub enum Call {
 }
 
 // What a call answered; a taking answers nothing.
-#[derive(Clone, Copy)]
+#[derive(Clone, Copy, PartialEq, Eq, Debug)]
 pub enum Answer {
     Held(bool),
     Number(usize),
@@ -25,7 +25,7 @@ pub enum Answer {
 }
 
 // A call and, once it was made, its answer.
-#[derive(Clone, Copy)]
+#[derive(Clone, Copy, PartialEq, Eq, Debug)]
 pub struct Line {
     pub call: Call,
     pub answer: Option<Answer>,

@@ -5,7 +5,7 @@ use sessions::refusal::{LookRefusal, StepRefusal};
 use sessions::verdict::{Judgement, Verdict};
 
 // What was refused: the file, a step, or a look.
-#[derive(Clone, Copy)]
+#[derive(Clone, Copy, PartialEq, Eq, Debug)]
 pub enum ReportRefusal {
     File(FillFault),
     Step(StepRefusal),
@@ -57,7 +57,7 @@ impl From<LookRefusal> for ReportRefusal {
 }
 
 // How a report ends: with the verdict, with the first step whose label is FALSE, or with a refusal.
-#[derive(Clone, Copy)]
+#[derive(Clone, Copy, PartialEq, Eq, Debug)]
 pub enum Ending {
     Kept,
     NotKept,

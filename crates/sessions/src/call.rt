@@ -12,14 +12,14 @@ pub enum Call {
 }
 
 // What a call answered.
-#[derive(Clone, Copy)]
+#[derive(Clone, Copy, PartialEq, Eq, Debug)]
 pub enum Answer {
     Stepped(Result<(), StepRefusal>),
     Seen(Result<Look, LookRefusal>),
 }
 
 // A call and, once it was made, its answer.
-#[derive(Clone, Copy)]
+#[derive(Clone, Copy, PartialEq, Eq, Debug)]
 pub struct Line {
     pub call: Call,
     pub answer: Option<Answer>,

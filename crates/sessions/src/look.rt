@@ -2,7 +2,7 @@ use goals::time::Hour;
 use labels::state::LabelState;
 
 // What a look tells.
-#[derive(Clone, Copy)]
+#[derive(Clone, Copy, PartialEq, Eq, Debug)]
 pub struct Look {
     // How many steps were taken.
     pub number: u16,

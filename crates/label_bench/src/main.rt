@@ -30,6 +30,7 @@ fn main(rt: HostRuntime) -> anyhow::Result<()> {
     Ok(())
 }
 
+// Each benchmark has this test and the loop below itself: a library's function over arguments and clocks could promise nothing.
 fn is_timed(rt: &HostRuntime) -> anyhow::Result<bool> {
     Ok(env::args(rt)?
         .skip(1)

@@ -52,6 +52,7 @@ impl Run {
         self.label.size()
     }
 
+    // The words are the benchmark's own; the library prints none.
     pub fn state(&self) -> &'static str {
         match self.label.state() {
             LabelState::True => "true",

@@ -5,21 +5,17 @@ ghost use Rattle.labels.specs.RefusalNumbers.{number_of};
 #[derive(Clone, Copy, PartialEq, Eq, Debug)]
 pub enum LabelRefusal {
     // A pending part names a node that the job lacks, or an id that it lacks.
-    OtherJob,
+    OtherJob = 10,
     // The work of the step exceeds 4,096 labels.
-    TooMuchWork,
+    TooMuchWork = 15,
     // The new label exceeds 512 distinct parts.
-    TooLong,
+    TooLong = 16,
 }
 
 impl LabelRefusal {
     pub fn number(self) -> u8
         ensures { result ≡ number_of self }
     {
-        match self {
-            LabelRefusal::OtherJob => 10,
-            LabelRefusal::TooMuchWork => 15,
-            LabelRefusal::TooLong => 16,
-        }
+        self as u8
     }
 }

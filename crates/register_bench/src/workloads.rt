@@ -33,7 +33,7 @@ impl Workload {
     }
 }
 
-// Runs a workload and gives a number that depends on all of its work.
+// Runs a workload and gives a number that depends on all of its work. A match, and no table of functions: a constant would hand out function pointers.
 pub fn run(heap: Global, workload: Workload) -> Result<u64, AllocError> {
     match workload {
         Workload::FillLimitedGrid => fill_grid(heap, 4096),

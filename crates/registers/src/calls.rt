@@ -5,7 +5,7 @@ use crate::fact::Fact;
 use crate::refusal::Refusal;
 use crate::register::Register;
 
-// A call on a register, as a value.
+// A call on a register, as a value: lists of calls are compared, so that a call is no closure.
 #[derive(Clone, Copy, PartialEq, Eq, Debug)]
 pub enum Call {
     Holds(Fact),

@@ -67,6 +67,7 @@ fn row_of(fact: Fact) -> usize
     usize::from(fact.predicate) * 128 + usize::from(fact.first)
 }
 
+// The three below ask that a bit is below 128; a type of such numbers would be longer than their three lines.
 fn bit(row: u128, b: u16) -> bool
     requires { b < 128 }
     ensures { result ≡ bit_of row b }

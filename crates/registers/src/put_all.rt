@@ -28,6 +28,7 @@ fn all_in_bounds<L: FactList>(list: &L) -> bool
     facts(list).all(|fact| fact.in_bounds())
 }
 
+// That all facts are in bounds is asked of three functions below: a type for such a list would say no more, and its one maker is `put_all`.
 // Would the limit allow all facts of the list, each counted once? A limit of all facts allows any.
 fn has_room<R: Register, L: FactList>(register: &R, list: &L) -> bool
     requires { all_allowed (L.FactList.listed list.now) ≡ true }

@@ -12,7 +12,7 @@ use crate::register::Register;
 const MOST_RECORDS: usize = 4096;
 
 // A register that keeps its records in a table lent by the caller: the first `len` of them are the facts held, in
-// any order; what the others hold is free.
+// any order; what the others hold is free. The length stands beside the table, and no `Vec`: a list asks for no memory.
 #[derive(Drop)]
 pub struct RecordList<'a> {
     table: &'a mut [Fact],

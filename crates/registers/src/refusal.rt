@@ -5,18 +5,15 @@ ghost use Rattle.registers.specs.Numbers.{number_of};
 #[derive(Clone, Copy, PartialEq, Eq, Debug)]
 pub enum Refusal {
     // Its predicate is over 15 or one of its ids over 127.
-    OutOfBounds,
+    OutOfBounds = 8,
     // It is not there yet, and the register is at its limit.
-    Full,
+    Full = 9,
 }
 
 impl Refusal {
     pub fn number(self) -> u8
         ensures { result ≡ number_of self }
     {
-        match self {
-            Refusal::OutOfBounds => 8,
-            Refusal::Full => 9,
-        }
+        self as u8
     }
 }

@@ -43,6 +43,7 @@ fn sum_of(bytes: &[u8]) -> u16 {
         .fold(0, |sum: u16, byte| sum.wrapping_add(u16::from(*byte)))
 }
 
+// Each benchmark has this test and the loop below itself: a library's function over arguments and clocks could promise nothing.
 fn is_timed(rt: &HostRuntime) -> anyhow::Result<bool> {
     Ok(env::args(rt)?
         .skip(1)

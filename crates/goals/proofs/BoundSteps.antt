@@ -1,5 +1,5 @@
 -- How the tests of bounds grow with the lists that are read, and what they say of one item.
-use Rattle.std.proofs.Common.{◌≡◌, ℕ, zero, suc, ◌+◌, ◌<◌, ◌≤◌, Bool, true, List, [], ◌∷◌, ◌++◌, length, get_or, take, set, Some, None, refl, ap, ◌∙◌, subst, arith}
+use Rattle.std.proofs.Common.{◌≡◌, ℕ, zero, suc, ◌+◌, ◌<◌, ◌≤◌, Bool, true, List, [], ◌∷◌, ◌++◌, length, get_or, take, set, Some, None, refl, ap, ◌∙◌, arith, rules}
 use Rattle.std.specs.List.{list_all, slice_get}
 use Rattle.std.proofs.lemmas.List.Folds.{list_all-append}
 use Rattle.std.proofs.lemmas.Bool.{and_parts, and_from}
@@ -25,7 +25,7 @@ inside-more ids parameters es k e lt h g =
 -- each operation of a list that keeps within the bounds does
 pub inside-at : (ids : ℕ) (os : List Operation) (k : ℕ) (o : Operation) → operations_inside ids os ≡ true → slice_get os k ≡ Some o → Inside ids o
 inside-at ids [] k o h e = let z : ◌≡◌ {A = ℕ} 0 1 = cc in absurd (omega arith)
-inside-at ids (x ∷ os) zero o h e = let same : x ≡ o = cc in subst (Inside ids) same (and_parts (operation_inside ids x) (operations_inside ids os) h).0
+inside-at ids (x ∷ os) zero o h e = search rules
 inside-at ids (x ∷ os) (suc k) o h e = inside-at ids os k o (and_parts (operation_inside ids x) (operations_inside ids os) h).1 e
 
 -- the first entries of a list, as many as are in use

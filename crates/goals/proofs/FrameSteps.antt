@@ -1,6 +1,5 @@
 -- The walk over a file's counts, one predicate or operation at a time.
-use Rattle.std.proofs.Common.{◌≡◌, rules, ℕ, suc, ◌+◌, ◌-◌, ◌*◌, ◌<◌, ◌≤◌, true, List, length, Ok, Result, sym, ap, ◌∙◌, arith}
-use Rattle.std.proofs.lemmas.Bool.Decides.{nat_tests}
+use Rattle.std.proofs.Common.{◌≡◌, rules, ℕ, suc, ◌+◌, ◌-◌, ◌*◌, ◌<◌, ◌≤◌, true, List, length, Ok, Result, ap, arith}
 use Rattle.goals.specs.declared.frame.Frame.{Frame}
 use Rattle.goals.specs.declared.file_fault.FrameFault.{FrameFault}
 use Rattle.goals.specs.Bytes.{byte_at}
@@ -12,14 +11,12 @@ left n i l = omega arith
 pub predicates-more : (file : List ℕ) (n i at next : ℕ) → i < n → next ≡ at + 2 + byte_at file (at + 1) →
     predicates_end file (n - i) at ≡ predicates_end file (n - (i + 1)) next
 unfolding predicates_end
-predicates-more file n i at next l e =
-    ap (λ k. predicates_end file k at) (left n i l) ∙ ap (predicates_end file (n - (i + 1))) (sym e)
+predicates-more file n i at next l e = search rules
 
 pub operations-more : (file : List ℕ) (n i at next : ℕ) → i < n → next ≡ at + 6 + 3 * (byte_at file (at + 3) + byte_at file (at + 4) + byte_at file (at + 5)) →
     operations_end file (n - i) at ≡ operations_end file (n - (i + 1)) next
 unfolding operations_end
-operations-more file n i at next l e =
-    ap (λ k. operations_end file k at) (left n i l) ∙ ap (operations_end file (n - (i + 1))) (sym e)
+operations-more file n i at next l e = search rules
 
 none_left : (n i : ℕ) → n ≤ i → n - i ≡ 0
 none_left n i l = omega arith
@@ -47,7 +44,7 @@ pub record Accepted (file : List ℕ) (f : Frame) : Type 0 where
 
 pub accepted : (file : List ℕ) (f : Frame) → Ok f ≡ framed file → Accepted file f
 unfolding framed length_checked
-accepted file f e = record { mark = grind (arith, nat_tests); frame = grind (arith, nat_tests); short = grind (arith, nat_tests); whole = grind (arith, nat_tests) }
+accepted file f e = search rules
 
 -- the sections lie one behind the other
 pub sections : (file : List ℕ) →

@@ -1,12 +1,9 @@
 -- The walk over a file's counts, one predicate or operation at a time.
-use Rattle.std.proofs.Common.{◌≡◌, rules, ℕ, suc, ◌+◌, ◌-◌, ◌*◌, ◌<◌, ◌≤◌, true, List, length, Ok, Result, ap, arith}
+use Rattle.std.proofs.Common.{◌≡◌, rules, ℕ, ◌+◌, ◌-◌, ◌*◌, ◌<◌, ◌≤◌, true, List, length, Ok, Result, ap, arith}
 use Rattle.goals.specs.declared.frame.Frame.{Frame}
 use Rattle.goals.specs.declared.file_fault.FrameFault.{FrameFault}
 use Rattle.goals.specs.Bytes.{byte_at}
 use Rattle.goals.specs.Frame.{marked, predicates_end, operations_end, frame_of, length_checked, framed}
-
-left : (n i : ℕ) → i < n → n - i ≡ suc (n - (i + 1))
-left n i l = omega arith
 
 pub predicates-more : (file : List ℕ) (n i at next : ℕ) → i < n → next ≡ at + 2 + byte_at file (at + 1) →
     predicates_end file (n - i) at ≡ predicates_end file (n - (i + 1)) next
@@ -18,16 +15,13 @@ pub operations-more : (file : List ℕ) (n i at next : ℕ) → i < n → next �
 unfolding operations_end
 operations-more file n i at next l e = search rules
 
-none_left : (n i : ℕ) → n ≤ i → n - i ≡ 0
-none_left n i l = omega arith
-
 pub predicates-all : (file : List ℕ) (n i at : ℕ) → n ≤ i → predicates_end file (n - i) at ≡ at
 unfolding predicates_end
-predicates-all file n i at l = ap (λ k. predicates_end file k at) (none_left n i l)
+predicates-all file n i at l = search rules
 
 pub operations-all : (file : List ℕ) (n i at : ℕ) → n ≤ i → operations_end file (n - i) at ≡ at
 unfolding operations_end
-operations-all file n i at l = ap (λ k. operations_end file k at) (none_left n i l)
+operations-all file n i at l = search rules
 
 -- a file that its frame fills
 pub framed-whole : (file : List ℕ) (f : Frame) → marked file ≡ true → f ≡ frame_of file → length file ≤ 40000 → f.end ≤ length file → length file ≤ f.end → ◌≡◌ {A = Result Frame FrameFault} (Ok f) (framed file)

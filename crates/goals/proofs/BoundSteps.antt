@@ -1,5 +1,5 @@
 -- How the tests of bounds grow with the lists that are read, and what they say of one item.
-use Rattle.std.proofs.Common.{◌≡◌, ℕ, zero, suc, ◌+◌, ◌<◌, ◌≤◌, true, List, [], ◌∷◌, ◌++◌, length, get_or, take, set, Option, Some, None, IfSome, is_some, ltb, Bor, sym, refl, ap, ◌∙◌, subst, arith, Bool}
+use Rattle.std.proofs.Common.{◌≡◌, ℕ, zero, suc, ◌+◌, ◌<◌, ◌≤◌, true, List, [], ◌∷◌, ◌++◌, length, get_or, take, set, Option, Some, None, IfSome, is_some, ltb, Bor, sym, refl, ap, ◌∙◌, subst, arith, Bool, rules}
 use Rattle.std.specs.List.{slice_get, list_all}
 use Rattle.std.specs.Option.{option_copied}
 use Rattle.std.proofs.lemmas.Bool.{and_parts, and_from, ltb-true}
@@ -26,7 +26,7 @@ inside-more ids parameters es k e lt h g =
 -- each operation of a list that keeps within the bounds does
 pub inside-at : (ids : ℕ) (os : List Operation) (k : ℕ) (o : Operation) → operations_inside ids os ≡ true → slice_get os k ≡ Some o → Inside ids o
 inside-at ids [] k o h e = let z : ◌≡◌ {A = ℕ} 0 1 = cc in absurd (omega arith)
-inside-at ids (x ∷ os) zero o h e = let same : x ≡ o = cc in subst (Inside ids) same (and_parts (operation_inside ids x) (operations_inside ids os) h).0
+inside-at ids (x ∷ os) zero o h e = search rules
 inside-at ids (x ∷ os) (suc k) o h e = inside-at ids os k o (and_parts (operation_inside ids x) (operations_inside ids os) h).1 e
 
 pub inside-got : (ids : ℕ) (os : List Operation) (k : ℕ) (r : Option (Bor Operation)) → operations_inside ids os ≡ true →

@@ -1,5 +1,5 @@
 -- What each way through the reading of a list of entries says, over plain values.
-use Rattle.std.proofs.Common.{◌≡◌, ℕ, zero, suc, ◌+◌, ◌*◌, ◌<◌, Bool, true, false, leb, List, [], ◌∷◌, ◌++◌, map, length, take, set, sym, refl, ap, ◌∙◌, arith}
+use Rattle.std.proofs.Common.{◌≡◌, ℕ, zero, suc, ◌+◌, ◌*◌, ◌<◌, Bool, true, false, leb, List, [], ◌∷◌, ◌++◌, map, length, take, set, sym, refl, ap, ◌∙◌, arith, rules}
 use Rattle.std.proofs.lemmas.List.{take_more_set, map_push}
 use Rattle.std.proofs.lemmas.Bool.{and_left, and_right, lt-leb}
 use Rattle.goals.specs.declared.operation.Entry.{Entry}
@@ -17,7 +17,7 @@ entries-count file (suc n) at = ap suc (entries-count file n (at + 3))
 
 pub entries-more : (file : List ℕ) (k at : ℕ) → entries_at file (k + 1) at ≡ entries_at file k at ++ entry_at file (at + 3 * k) ∷ []
 unfolding entries_at
-entries-more file zero at = ap (λ n. entry_at file n ∷ []) (let e : at ≡ at + 3 * 0 = omega arith in e)
+entries-more file zero at = search rules
 entries-more file (suc k) at =
     ap (λ n. entries_at file n at) (let e : suc k + 1 ≡ suc (k + 1) = omega arith in e)
     ∙ ap (λ l. entry_at file at ∷ l)

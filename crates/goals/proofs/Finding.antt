@@ -1,9 +1,8 @@
 -- Names and numbers: a search for a name goes on by one, and a number grows by one digit.
-use Rattle.std.proofs.Common.{◌≡◌, ℕ, zero, suc, ◌+◌, ◌-◌, ◌*◌, ◌<◌, ◌≤◌, min, Bool, true, false, List, [], ◌∷◌, length, get_or, take, drop, sym, refl, ap, ◌∙◌, arith, cond, position, Some, None}
-use Rattle.std.proofs.lemmas.Bool.{cond-true, cond-false}
+use Rattle.std.proofs.Common.{◌≡◌, ℕ, zero, suc, ◌+◌, ◌-◌, ◌*◌, ◌<◌, ◌≤◌, min, Bool, true, false, List, [], ◌∷◌, length, get_or, take, drop, sym, refl, ap, ◌∙◌, arith, cond, position, Some, None, add-one, drop-cons, rules}
+use Rattle.std.proofs.lemmas.Bool.{cond-true, cond-false, ltb-false}
 use Rattle.std.specs.List.{fold, position_or_len}
 use Rattle.std.specs.Str.{bytes_eq}
-use Rattle.std.proofs.lemmas.Bool.{cond-true, cond-false, ltb-false}
 use Rattle.std.proofs.lemmas.List.Quantifiers.{position-Some}
 use Rattle.std.proofs.lemmas.List.Sums.{fails_before_first}
 use Rattle.std.proofs.lemmas.Option.{none-some}
@@ -37,8 +36,7 @@ module _ (b : List ℕ) (d : Predicate) where
   unfolding find_from
   find-yes i zero k ps l m h e = absurd (omega arith)
   find-yes i (suc n) k [] l m h e = absurd (omega arith)
-  find-yes i (suc n) zero (p ∷ ps) l m h e =
-      cond-true (bytes_eq (name_of p) b) _ _ e ∙ ap (λ x. found x (places_of p.places)) (let q : i ≡ i + 0 = omega arith in q)
+  find-yes i (suc n) zero (p ∷ ps) l m h e = search rules
   find-yes i (suc n) (suc k) (p ∷ ps) l m h e =
       cond-false (bytes_eq (name_of p) b) _ _ (h 0 (omega arith)) ∙ find-yes (suc i) n k ps (omega arith) (omega arith) (λ j l. h (suc j) (omega arith)) e
       ∙ ap (λ x. found x (places_of (get_or ps k d).places)) (let q : suc i + k ≡ i + suc k = omega arith in q)

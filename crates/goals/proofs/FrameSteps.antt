@@ -1,36 +1,27 @@
 -- The walk over a file's counts, one predicate or operation at a time.
-use Rattle.std.proofs.Common.{◌≡◌, rules, ℕ, suc, ◌+◌, ◌-◌, ◌*◌, ◌<◌, ◌≤◌, true, List, length, Ok, Result, sym, ap, ◌∙◌, arith}
-use Rattle.std.proofs.lemmas.Bool.Decides.{nat_tests}
+use Rattle.std.proofs.Common.{◌≡◌, rules, ℕ, ◌+◌, ◌-◌, ◌*◌, ◌<◌, ◌≤◌, true, List, length, Ok, Result, ap, arith}
 use Rattle.goals.specs.declared.frame.Frame.{Frame}
 use Rattle.goals.specs.declared.file_fault.FrameFault.{FrameFault}
 use Rattle.goals.specs.Bytes.{byte_at}
 use Rattle.goals.specs.Frame.{marked, predicates_end, operations_end, frame_of, length_checked, framed}
 
-left : (n i : ℕ) → i < n → n - i ≡ suc (n - (i + 1))
-left n i l = omega arith
-
 pub predicates-more : (file : List ℕ) (n i at next : ℕ) → i < n → next ≡ at + 2 + byte_at file (at + 1) →
     predicates_end file (n - i) at ≡ predicates_end file (n - (i + 1)) next
 unfolding predicates_end
-predicates-more file n i at next l e =
-    ap (λ k. predicates_end file k at) (left n i l) ∙ ap (predicates_end file (n - (i + 1))) (sym e)
+predicates-more file n i at next l e = search rules
 
 pub operations-more : (file : List ℕ) (n i at next : ℕ) → i < n → next ≡ at + 6 + 3 * (byte_at file (at + 3) + byte_at file (at + 4) + byte_at file (at + 5)) →
     operations_end file (n - i) at ≡ operations_end file (n - (i + 1)) next
 unfolding operations_end
-operations-more file n i at next l e =
-    ap (λ k. operations_end file k at) (left n i l) ∙ ap (operations_end file (n - (i + 1))) (sym e)
-
-none_left : (n i : ℕ) → n ≤ i → n - i ≡ 0
-none_left n i l = omega arith
+operations-more file n i at next l e = search rules
 
 pub predicates-all : (file : List ℕ) (n i at : ℕ) → n ≤ i → predicates_end file (n - i) at ≡ at
 unfolding predicates_end
-predicates-all file n i at l = ap (λ k. predicates_end file k at) (none_left n i l)
+predicates-all file n i at l = search rules
 
 pub operations-all : (file : List ℕ) (n i at : ℕ) → n ≤ i → operations_end file (n - i) at ≡ at
 unfolding operations_end
-operations-all file n i at l = ap (λ k. operations_end file k at) (none_left n i l)
+operations-all file n i at l = search rules
 
 -- a file that its frame fills
 pub framed-whole : (file : List ℕ) (f : Frame) → marked file ≡ true → f ≡ frame_of file → length file ≤ 40000 → f.end ≤ length file → length file ≤ f.end → ◌≡◌ {A = Result Frame FrameFault} (Ok f) (framed file)
@@ -47,7 +38,7 @@ pub record Accepted (file : List ℕ) (f : Frame) : Type 0 where
 
 pub accepted : (file : List ℕ) (f : Frame) → Ok f ≡ framed file → Accepted file f
 unfolding framed length_checked
-accepted file f e = record { mark = grind (arith, nat_tests); frame = grind (arith, nat_tests); short = grind (arith, nat_tests); whole = grind (arith, nat_tests) }
+accepted file f e = search rules
 
 -- the sections lie one behind the other
 pub sections : (file : List ℕ) →

@@ -1,5 +1,5 @@
 -- From a framed file to its job: where the goal text lies, and that the catalogue's words are the file's.
-use Rattle.std.proofs.Common.{◌≡◌, ℕ, zero, suc, ◌+◌, ◌-◌, ◌*◌, ◌≤◌, true, cond, List, [], ◌∷◌, map, length, take, drop, Ok, vec_items, vec_len, sym, refl, ap, ◌∙◌, subst, ap₂, arith}
+use Rattle.std.proofs.Common.{◌≡◌, ℕ, zero, suc, ◌+◌, ◌-◌, ◌*◌, ◌≤◌, true, cond, List, [], ◌∷◌, map, length, take, drop, Ok, vec_items, vec_len, sym, refl, ap, ◌∙◌, subst, ap₂, arith, rules}
 use mathlib.Core.Path.{fun_ext}
 use Rattle.std.specs.Str.{bytes_eq}
 use Rattle.std.proofs.lemmas.List.{take_all, length-map}
@@ -10,13 +10,12 @@ use Rattle.goals.specs.declared.catalogue.Catalogue.{Catalogue}
 use Rattle.goals.specs.Bytes.{byte_at}
 use Rattle.goals.specs.Frame.{framed, frame_of, operations_end}
 use Rattle.goals.specs.CatalogueRules.{sound_counts, sound_predicates}
-use Rattle.goals.specs.CatalogueMeaning.{shape_sound, sound_operations}
+use Rattle.goals.specs.CatalogueMeaning.{shape_sound}
 use Rattle.goals.specs.CatalogueReading.{Spelled}
 use Rattle.goals.specs.Entries.{predicate_text}
 use Rattle.goals.specs.Vocabulary.{find_from, vocabulary_of, name_of, found, places_of}
 use Rattle.goals.specs.JobText.{goal_text, find_text, words_from, words_of, operations_sound}
 use Rattle.goals.proofs.FrameSteps.{accepted, sections}
-use Rattle.goals.proofs.BoundSteps.{counts_in_limits_lem}
 use Rattle.goals.proofs.PredicateSteps.{slice_bytes, predicates-count}
 use Rattle.goals.proofs.OperationSteps.{operations-count}
 
@@ -77,8 +76,7 @@ words_same n ps l =
 
 -- a catalogue has few predicates
 pub few-predicates : (c : Catalogue) → length (vec_items c.predicates) ≤ 256
-few-predicates c =
-    let n = counts_in_limits_lem c.ids (vec_len c.predicates) (vec_len c.operations) c.counts in omega (arith, n.1, c.predicates.ok.0)
+few-predicates c = search rules
 
 -- what a spelled-out catalogue says of the file
 module _ (file : List ℕ) (f : Frame) (c : Catalogue) (s : Spelled file f c) where
@@ -100,5 +98,4 @@ module _ (file : List ℕ) (f : Frame) (c : Catalogue) (s : Spelled file f c) wh
       (ap (sound_predicates []) (sym s.predicates_same) ∙ c.names)
 
   pub operations-of-file : operations_sound file f ≡ true
-  operations-of-file =
-      (λ i. sound_operations (sym s.ids_same i) (sym s.predicates_same i) (sym s.operations_same i)) ∙ c.rules
+  operations-of-file = search rules

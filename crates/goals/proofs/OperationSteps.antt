@@ -1,5 +1,5 @@
 -- What each way through the reading of all operations says, over plain values.
-use Rattle.std.proofs.Common.{◌≡◌, ℕ, zero, suc, ◌+◌, ◌-◌, ◌*◌, ◌<◌, ◌≤◌, true, false, List, [], ◌∷◌, ◌++◌, map, length, Some, sym, refl, ap, ◌∙◌, subst, arith, MatchOption}
+use Rattle.std.proofs.Common.{◌≡◌, ℕ, zero, suc, ◌+◌, ◌-◌, ◌*◌, ◌<◌, ◌≤◌, true, false, List, [], ◌∷◌, ◌++◌, map, length, Some, sym, refl, ap, ◌∙◌, subst, arith, MatchOption, rules}
 use Rattle.std.specs.List.{slice_get}
 use Rattle.std.proofs.lemmas.List.{map_push, length-map}
 use Rattle.goals.specs.declared.operation.Operation.{Operation}
@@ -18,13 +18,11 @@ behind file at = at + 6 + 3 * (byte_at file (at + 3) + byte_at file (at + 4) + b
 pub rest_more : (file : List ℕ) (n k at next : ℕ) → k < n → next ≡ behind file at →
     operations_from file (n - k) at ≡ operation_at file at ∷ operations_from file (n - (k + 1)) next
 unfolding operations_from
-rest_more file n k at next l e =
-    ap (λ m. operations_from file m at) (let q : n - k ≡ suc (n - (k + 1)) = omega arith in q)
-    ∙ ap (λ m. operation_at file at ∷ operations_from file (n - (k + 1)) m) (sym e)
+rest_more file n k at next l e = search rules
 
 pub rest-none : (file : List ℕ) (n k at : ℕ) → n ≤ k → operations_from file (n - k) at ≡ []
 unfolding operations_from
-rest-none file n k at l = ap (λ m. operations_from file m at) (let q : n - k ≡ 0 = omega arith in q)
+rest-none file n k at l = search rules
 
 pub operations_table_more : (file : List ℕ) (n k at next : ℕ) (items : List Operation) (o : Operation) → k < n → next ≡ behind file at → operation_text o ≡ operation_at file at →
     map operation_text items ++ operations_from file (n - k) at ≡ map operation_text (items ++ o ∷ []) ++ operations_from file (n - (k + 1)) next

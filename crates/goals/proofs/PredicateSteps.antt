@@ -22,7 +22,7 @@ bytes_count file (suc n) at = ap suc (bytes_count file n (at + 1))
 
 pub bytes-more : (file : List ℕ) (k at : ℕ) → bytes_at file (k + 1) at ≡ bytes_at file k at ++ byte_at file (at + k) ∷ []
 unfolding bytes_at
-bytes-more file zero at = ap (λ n. byte_at file n ∷ []) (let e : at ≡ at + 0 = omega arith in e)
+bytes-more file zero at = search rules
 bytes-more file (suc k) at =
     ap (λ n. bytes_at file n at) (let e : suc k + 1 ≡ suc (k + 1) = omega arith in e)
     ∙ ap (λ l. byte_at file at ∷ l)
@@ -71,13 +71,11 @@ predicates-count file (suc n) at = ap suc (predicates-count file n (at + 2 + byt
 pub left_more : (file : List ℕ) (n k at next : ℕ) → k < n → next ≡ at + 2 + byte_at file (at + 1) →
     predicates_from file (n - k) at ≡ predicate_at file at ∷ predicates_from file (n - (k + 1)) next
 unfolding predicates_from
-left_more file n k at next l e =
-    ap (λ m. predicates_from file m at) (let q : n - k ≡ suc (n - (k + 1)) = omega arith in q)
-    ∙ ap (λ m. predicate_at file at ∷ predicates_from file (n - (k + 1)) m) (sym e)
+left_more file n k at next l e = search rules
 
 pub left_none : (file : List ℕ) (n k at : ℕ) → n ≤ k → predicates_from file (n - k) at ≡ []
 unfolding predicates_from
-left_none file n k at l = ap (λ m. predicates_from file m at) (let q : n - k ≡ 0 = omega arith in q)
+left_none file n k at l = search rules
 
 pub sound_none : (ps : List PredicateText) → sound_predicates ps [] ≡ true
 unfolding sound_predicates

@@ -8,15 +8,7 @@ use Rattle.goals.specs.declared.token.Kind.{Kind}
 use Rattle.goals.specs.declared.token.Kind.TheVariants as kind
 use Rattle.goals.specs.Tokens.{mark, Source, next}
 use Rattle.goals.specs.Seen.{seen, mark_of, is_sign, Shows}
-use Rattle.goals.specs.Promises.{head_sign, head_place}
-
-pub place_seen : (k : Kind) (p : ℕ) (s : Source) → head_place (seen k p s) ≡ p
-place_seen (kind.Name b) p s = refl
-place_seen (kind.Variable v) p s = refl
-place_seen (kind.Number d) p s = refl
-place_seen (kind.Sign g) p s = refl
-place_seen kind.Bad p s = refl
-place_seen kind.End p s = refl
+use Rattle.goals.specs.Promises.{head_sign}
 
 marked : (g : Sign) → 0 ≡ mark_of g → ⊥
 marked sign.True e = omega arith

@@ -1,10 +1,10 @@
 -- One token of a text at a time.
-use Rattle.std.proofs.Common.{◌≡◌, ℕ, zero, suc, ◌+◌, ◌<◌, ◌≤◌, Bool, true, false, cond, eqb, leb, List, [], ◌∷◌, length, take, drop, sym, refl, ap, ◌∙◌, subst, ap₂, add-zero, arith, length-drop, eq-eqb, ne_eqb, le-leb}
+use Rattle.std.proofs.Common.{◌≡◌, ℕ, zero, suc, ◌+◌, ◌<◌, ◌≤◌, Bool, true, false, cond, eqb, leb, List, [], ◌∷◌, length, take, drop, sym, refl, ap, ◌∙◌, subst, ap₂, add-zero, arith, length-drop, eq-eqb, le-leb}
 use Rattle.std.proofs.lemmas.Bool.{cond-true, cond-false, and_from, and_left, and_right}
 use borrow.Author.Tests.{lt-leb}
 use Rattle.goals.specs.declared.token.Kind.{Kind}
 use Rattle.goals.specs.Seen.{seen, used, Shows, Leads}
-use Rattle.goals.specs.Tokens.{next, is_letter, is_digit, is_blank, run_of, more, name_token, number_token, variable_token, sign_token, token_of, lex}
+use Rattle.goals.specs.Tokens.{next, is_letter, is_digit, is_blank, run_of, more, name_token, number_token, variable_token, token_of, lex}
 
 run-within : (t : ℕ → Bool) (bs : List ℕ) → run_of t bs ≤ length bs
 run-within t [] = omega arith
@@ -77,7 +77,7 @@ pub leads-within : (v : List ℕ) (k : Kind) (n : ℕ) → Leads v k n → n ≤
 leads-within [] k n h = let e = h.1 in omega (arith, e)
 leads-within (b ∷ bs) k n h = let e = h.0 in let w = more_within b bs in omega (arith, e, w)
 
--- the four kinds of tokens
+-- names, numbers and variables
 letter_is : (b : ℕ) → 97 ≤ b → b ≤ 122 → is_letter b ≡ true
 letter_is b h g = and_from (leb 97 b) (leb b 122) (le-leb 97 b h) (le-leb b 122 g)
 
@@ -114,10 +114,3 @@ module _ (b : ℕ) (bs w : List ℕ) (k : Kind) (begins : w ≡ b ∷ bs) where
       let size : n ≡ suc (more b bs) = omega (arith, f, e, m) in
       let token : variable_token (take (more b bs) bs) ≡ token_of b (take (more b bs) bs) = sym (cond-false (is_letter b) _ _ l ∙ cond-false (is_digit b) _ _ d ∙ cond-true (eqb b 63) _ _ q) in
       subst (λ x. Leads x k n) (sym begins) (size, λ p z. s b (take (more b bs) bs) (ap₂ (λ x y. take x y) size begins) p z ∙ ap (λ x. next x p z) token)
-
-  pub leads_sign : is_letter b ≡ false → is_digit b ≡ false → (b ≡ 63 → ⊥) → Shows k (sign_token b) → Leads w k 1
-  leads_sign l d v s =
-      let q = ne_eqb b 63 v in
-      let m : more b bs ≡ 0 = cond-false (is_letter b) _ _ l ∙ cond-false (is_digit b) _ _ d ∙ cond-false (eqb b 63) _ _ q in
-      let token : sign_token b ≡ token_of b (take (more b bs) bs) = sym (cond-false (is_letter b) _ _ l ∙ cond-false (is_digit b) _ _ d ∙ cond-false (eqb b 63) _ _ q) in
-      subst (λ x. Leads x k 1) (sym begins) (ap suc (sym m), λ p z. s p z ∙ ap (λ x. next x p z) token)

@@ -14,7 +14,7 @@ use Rattle.goals.specs.Seen.{tokens_in, mark_of, is_sign, used, Shows, TokenAt}
 use Rattle.goals.specs.Vocabulary.{Vocabulary}
 use Rattle.goals.specs.Reading.{Stage, Moved, cannot, may, signed, move, fault, ended, followed, walk, run}
 use Rattle.goals.specs.Promises.{left, tokens, from, Passed, Added, Closed, Still, Here, SignRead, head_sign, head_place}
-use Rattle.goals.proofs.Heads.{shows_sign, other_sign, place_seen}
+use Rattle.goals.proofs.Heads.{shows_sign, other_sign}
 
 module _ (V : Vocabulary) where
   pub goes : (n : ℕ) (g : Stage) (x : Tok) (p : ℕ) (s : Source) (b : Bool) (c y m : ℕ) (h : Stage) → move V g x p ≡ may b c y m h → b ≡ true → n + m ≤ 128 → run V n g (next x p s) ≡ run V (n + m) h s
@@ -89,9 +89,6 @@ sign_at p {t} v g e = shown p v (mark (mark_of g)) (shows_sign t.kind g e)
 pub not_at : (p : Progress) {t : Token} → TokenAt p.rest t → (g : Sign) → is_sign t.kind g ≡ false → head_sign (tokens p) ≡ mark_of g → ⊥
 not_at p {t} v g e h = other_sign t.kind g t.place (tokens_in t.rest) e (sym (ap head_sign v.there) ∙ h)
 
-pub place-at : (p : Progress) {t : Token} → TokenAt p.rest t → t.place ≡ head_place (tokens p)
-place-at p {t} v = sym (ap head_place v.there ∙ place_seen t.kind t.place (tokens_in t.rest))
-
 -- a sign that has to stand here
 module _ {p q : Progress} {c : ℕ} (r : SignRead p q c) where
   sign_passed : Passed p q 0 q.rest
@@ -119,6 +116,3 @@ still-passed {p} {q} {x} {place} {behind} v d = record {
   count_same = let e = d.count_is in omega (arith, e);
   further = let e = passed-left d in let l = v.further in omega (arith, e, l);
 }
-
-pub sign-read : {p q : Progress} {c place : ℕ} {behind : Rest} → Here p (mark c) place behind → Passed p q 0 behind → SignRead p q c
-sign-read {p} {q} {c} {place} {behind} v d = record { place = place; there = v.there ∙ ap (λ r. next (mark c) place (tokens_in r)) (sym d.rest_is); still = still-passed v d }

@@ -124,7 +124,7 @@ impl<'a> Kind<'a> {
         }
     }
 
-    // A character that begins no name, number or variable.
+    // A character that begins no name, number or variable. With `map_or` the check made no proof, since the variant's function names a lifetime that its argument doesn't.
     fn sign(c: char) -> Kind<'a>
         ensures { Shows result (sign_token c) }
     {

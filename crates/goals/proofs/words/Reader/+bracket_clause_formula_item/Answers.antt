@@ -1,4 +1,4 @@
-use Rattle.std.proofs.Common.{◌≡◌, Some, None, sym, refl, ap, ◌∙◌, subst, arith}
+use Rattle.std.proofs.Common.{◌≡◌, Some, sym, refl, ap, ◌∙◌, subst, arith}
 use Rattle.goals.specs.declared.progress.Progress.{Progress}
 use Rattle.goals.specs.declared.token.Kind.TheVariants as kind
 use Rattle.goals.specs.declared.token.Sign.{Sign}
@@ -12,7 +12,7 @@ use Rattle.goals.specs.Promises.{vocabulary, Added, Here, bracketed, ItemSays, C
 use Rattle.goals.proofs.Moves.{here, sign_at, not_at, passed-left}
 use Rattle.goals.proofs.Terms.{broke, told_as}
 use Rattle.goals.proofs.Prefixes.{no_item}
-use Rattle.goals.proofs.Ring.{and-over, and_step, or-over, or_step, clause_done, clause_back, clause_again, formula_done, formula_back, formula_again, room_after, true_over, item_true, item-test, item-behind, letter_fail, letter-step, number_fail, number_step, open_fail, open_step, equation-item, prefix-fault, prefix-room, item-prefixed, first-fault, item-group, joint-fault, second-fault, close-fault, pair-room, item-pair}
+use Rattle.goals.proofs.Ring.{and-over, and_step, or-over, or_step, clause_done, clause_back, clause_again, formula_done, formula_back, formula_again, room_after, true_over, item_true, item-test, item-behind, letter_fail, letter-step, number_fail, number_step, open_fail, open_step, equation-item, prefix-room, item-prefixed, item-group, second-fault, close-fault, pair-room, item-pair}
 use Rattle.goals.proofs.words.Reader.+bracket_clause_formula_item.Goals as goal
 
 -- the sign that begins an item
@@ -26,18 +26,6 @@ clause-add-left-requires t c =
     let p = c.args.s.now in
     room_after c.in_ok-take.ensures c.in_ok-right.ensures.made
 
-pub clause-item-requires-in-loop-token : goal.clause-item-requires-in-loop-token
-clause-item-requires-in-loop-token t c =
-    let V = vocabulary c.args.self.now.words in
-    let s = c.args.self.now.scope in
-    let p = c.args.s.now in
-    let n = c.next_token-token in
-    let a = passed-left c.in_ok-take.ensures in
-    let d = n.ensures.further in
-    let e = c.loop-token.invariant.low in
-    let f = c.in_ok-left.ensures.made.further in
-    omega (arith, a, d, e, f)
-
 pub clause-loop-token-preserved : goal.clause-loop-token-preserved
 clause-loop-token-preserved t c =
     let V = vocabulary c.args.self.now.words in
@@ -46,14 +34,6 @@ clause-loop-token-preserved t c =
     let n = c.next_token-token in
     let h = sign_at c.loop-token.s n.ensures sign.And (sym c.if-not-is.ensures) in
     clause_again c.loop-token.invariant h c.in_ok-take.ensures c.in_ok-right.ensures c.add-left.ensures
-
-pub clause-returns-in_err-left : goal.clause-returns-in_err-left
-clause-returns-in_err-left t c =
-    let V = vocabulary c.args.self.now.words in
-    let s = c.args.self.now.scope in
-    let p = c.args.s.now in
-    broke (ClauseSays V s p _) _ c.from_residual.result c.from_residual.ensures.1
-    (λ o f e. c.in_err-left.ensures (at None o f) e)
 
 pub clause-returns-in_err-right : goal.clause-returns-in_err-right
 clause-returns-in_err-right t c =
@@ -91,18 +71,6 @@ formula-add-left-requires t c =
     let p = c.args.s.now in
     room_after c.in_ok-take.ensures c.in_ok-right.ensures.made
 
-pub formula-clause-requires-in-loop-token : goal.formula-clause-requires-in-loop-token
-formula-clause-requires-in-loop-token t c =
-    let V = vocabulary c.args.self.now.words in
-    let s = c.args.self.now.scope in
-    let p = c.args.s.now in
-    let n = c.next_token-token in
-    let a = passed-left c.in_ok-take.ensures in
-    let d = n.ensures.further in
-    let e = c.loop-token.invariant.low in
-    let f = c.in_ok-left.ensures.made.further in
-    omega (arith, a, d, e, f)
-
 pub formula-loop-token-preserved : goal.formula-loop-token-preserved
 formula-loop-token-preserved t c =
     let V = vocabulary c.args.self.now.words in
@@ -111,14 +79,6 @@ formula-loop-token-preserved t c =
     let n = c.next_token-token in
     let h = sign_at c.loop-token.s n.ensures sign.Or (sym c.if-not-is.ensures) in
     formula_again c.loop-token.invariant h c.in_ok-take.ensures c.in_ok-right.ensures c.add-left.ensures
-
-pub formula-returns-in_err-left : goal.formula-returns-in_err-left
-formula-returns-in_err-left t c =
-    let V = vocabulary c.args.self.now.words in
-    let s = c.args.self.now.scope in
-    let p = c.args.s.now in
-    broke (FormulaSays V s p _) _ c.from_residual.result c.from_residual.ensures.1
-    (λ f e. c.in_err-left.ensures None f e)
 
 pub formula-returns-in_err-right : goal.formula-returns-in_err-right
 formula-returns-in_err-right t c =
@@ -256,14 +216,6 @@ item-returns-in_ok-left-in-Number t c =
     let x = syntax.id c.in-Number.digits.now in
     item-behind V s wants (λ k. equals x k) p c.pass-in-Number.new.self _ c.equation-in-Number.result d.nodes_same (let a = d.count_is in omega (arith, a)) (let a = passed-left d in let b = h.further in omega (arith, a, b)) (λ k e. number_step V s h y.0 d k) (equation-item V s _ x _ _ c.equation-in-Number.result y.1 c.equation-in-Number.ensures)
 
-pub item-returns-in_err-part-in_default-sign : goal.item-returns-in_err-part-in_default-sign
-item-returns-in_err-part-in_default-sign t c =
-    let V = vocabulary c.args.self.now.words in
-    let s = c.args.self.now.scope in
-    let p = c.args.s.now in
-    broke (ItemSays V s wants p _) _ c.from_residual-in_err-part-in_default-sign.result c.from_residual-in_err-part-in_default-sign.ensures.1
-    (prefix-fault c.in_ok-opening-in_default-sign.ensures _ c.in_err-part-in_default-sign.ensures)
-
 pub item-returns-in_ok-part-in_default-sign : goal.item-returns-in_ok-part-in_default-sign
 item-returns-in_ok-part-in_default-sign t c =
     let V = vocabulary c.args.self.now.words in
@@ -296,24 +248,6 @@ bracket-returns-in_err-expect t c =
     let y = c.in_err-expect.ensures in
     broke (ItemSays V s bracketed p _) _ c.from_residual-in_err-expect.result c.from_residual-in_err-expect.ensures.1
     (λ k e. told_as y.0 (close-fault d c.in_ok-first.ensures (c.in_ok-joint.ensures V) c.in_ok-second.ensures y.1 k e))
-
-pub bracket-returns-in_err-first : goal.bracket-returns-in_err-first
-bracket-returns-in_err-first t c =
-    let V = vocabulary c.args.self.now.words in
-    let s = c.args.self.now.scope in
-    let p = c.args.s.now in
-    let d = c.deeper.ensures in
-    broke (ItemSays V s bracketed p _) _ c.from_residual.result c.from_residual.ensures.1
-    (first-fault V s _ p d _ c.in_err-first.ensures)
-
-pub bracket-returns-in_err-joint : goal.bracket-returns-in_err-joint
-bracket-returns-in_err-joint t c =
-    let V = vocabulary c.args.self.now.words in
-    let s = c.args.self.now.scope in
-    let p = c.args.s.now in
-    let d = c.deeper.ensures in
-    broke (ItemSays V s bracketed p _) _ c.from_residual-in_err-joint.result c.from_residual-in_err-joint.ensures.1
-    (joint-fault d c.in_ok-first.ensures _ (c.in_err-joint.ensures V))
 
 pub bracket-returns-in_err-second : goal.bracket-returns-in_err-second
 bracket-returns-in_err-second t c =

@@ -15,6 +15,7 @@ use crate::number::number_of;
 use crate::predicate::find;
 use crate::progress::{Bound, Joint, Opening, Prefix, Progress, Timed};
 use crate::rest::Rest;
+use crate::scope::Scope;
 use crate::time::Span;
 use crate::token::{Kind, Sign, Token};
 use crate::words::{Called, Reader};
@@ -26,6 +27,12 @@ fn stands_for(term: Term, variable: Variable) -> bool
     ensures { result ≡ is_bound variable term }
 {
     term == Term::Bound(variable)
+}
+
+fn opening(prefix: Prefix, scope: Scope) -> Opening
+    ensures { result ≡ record { prefix = prefix; scope = scope } }
+{
+    Opening { prefix, scope }
 }
 
 // The name of a quantifier's bound.
@@ -269,45 +276,29 @@ impl Reader<'_> {
         match sign {
             Sign::Not => {
                 s.take(1, token)?;
-                Ok(Opening {
-                    prefix: Prefix::Not,
-                    scope,
-                })
+                Ok(opening(Prefix::Not, scope))
             }
             Sign::Next => {
                 s.take(1, token)?;
-                Ok(Opening {
-                    prefix: Prefix::Next,
-                    scope,
-                })
+                Ok(opening(Prefix::Next, scope))
             }
             Sign::Eventually => {
                 let t = s.timed(2, token)?;
-                Ok(Opening {
-                    prefix: Prefix::Eventually(t.ends, t.truth),
-                    scope,
-                })
+                Ok(opening(Prefix::Eventually(t.ends, t.truth), scope))
             }
             Sign::Always => {
                 let t = s.timed(4, token)?;
-                Ok(Opening {
-                    prefix: Prefix::Always(t.ends, t.truth),
-                    scope,
-                })
+                Ok(opening(Prefix::Always(t.ends, t.truth), scope))
             }
             Sign::ForAll => {
                 let b = self.quantified(token, s)?;
-                Ok(Opening {
-                    prefix: Prefix::ForAll(scope.letters.next(), b.atom),
-                    scope: scope.binding(b.letter),
-                })
+                let prefix = Prefix::ForAll(scope.letters.next(), b.atom);
+                Ok(opening(prefix, scope.binding(b.letter)))
             }
             Sign::Exists => {
                 let b = self.quantified(token, s)?;
-                Ok(Opening {
-                    prefix: Prefix::Exists(scope.letters.next(), b.atom),
-                    scope: scope.binding(b.letter),
-                })
+                let prefix = Prefix::Exists(scope.letters.next(), b.atom);
+                Ok(opening(prefix, scope.binding(b.letter)))
             }
             _ => Err(GoalFault::Follow(token.place)),
         }

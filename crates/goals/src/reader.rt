@@ -79,10 +79,8 @@ impl Reader<'_> {
                     s.take(1, token)?;
                     Ok(s.add(Node::True))
                 }
+                Sign::Open if self.scope.depth >= MOST_DEPTH => Err(GoalFault::Limit(token.place)),
                 Sign::Open => {
-                    if self.scope.depth >= MOST_DEPTH {
-                        return Err(GoalFault::Limit(token.place));
-                    }
                     s.pass(token);
                     self.bracket(s)
                 }

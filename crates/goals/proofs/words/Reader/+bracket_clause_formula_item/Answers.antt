@@ -116,8 +116,8 @@ item-close-requires t c =
     let p = c.args.s.now in
     prefix-room c.in_ok-opening-in_default-sign.ensures c.in_ok-part-in_default-sign.ensures.made
 
-pub item-returns-then-self-ge-MOST_DEPTH : goal.item-returns-then-self-ge-MOST_DEPTH
-item-returns-then-self-ge-MOST_DEPTH t c =
+pub item-returns-in-Open : goal.item-returns-in-Open
+item-returns-in-Open t c =
     let V = vocabulary c.args.self.now.words in
     let s = c.args.self.now.scope in
     let p = c.args.s.now in
@@ -125,15 +125,15 @@ item-returns-then-self-ge-MOST_DEPTH t c =
     let h = sign_here p n.ensures c.in-Sign.sign sign.Open c.in-Sign.is c.in-Open.is in
     open_fail V s h c.if-self-ge-MOST_DEPTH.true
 
-pub item-returns-else-self-ge-MOST_DEPTH : goal.item-returns-else-self-ge-MOST_DEPTH
-item-returns-else-self-ge-MOST_DEPTH t c =
+pub item-returns-in-Open-2 : goal.item-returns-in-Open-2
+item-returns-in-Open-2 t c =
     let V = vocabulary c.args.self.now.words in
     let s = c.args.self.now.scope in
     let p = c.args.s.now in
     let n = c.next_token-token in
     let h = sign_here p n.ensures c.in-Sign.sign sign.Open c.in-Sign.is c.in-Open.is in
-    let d = c.pass-in-Open.ensures in
-    item-behind V s wants bracketed p c.pass-in-Open.new.self _ c.bracket.result d.nodes_same (let a = d.count_is in omega (arith, a)) (let a = passed-left d in let b = h.further in omega (arith, a, b)) (open_step V s h c.if-self-ge-MOST_DEPTH.false d) c.bracket.ensures
+    let d = c.pass-in-Open-2.ensures in
+    item-behind V s wants bracketed p c.pass-in-Open-2.new.self _ c.bracket.result d.nodes_same (let a = d.count_is in omega (arith, a)) (let a = passed-left d in let b = h.further in omega (arith, a, b)) (open_step V s h c.if-self-ge-MOST_DEPTH.false d) c.bracket.ensures
 
 pub item-returns-in_err-take-in-True : goal.item-returns-in_err-take-in-True
 item-returns-in_err-take-in-True t c =

@@ -1,4 +1,4 @@
-use Rattle.std.proofs.Common.{◌≡◌, ℕ, refl, ap, ◌∙◌, subst}
+use Rattle.std.proofs.Common.{◌≡◌, ℕ, sym, refl, ap, ◌∙◌, subst}
 use Rattle.goals.specs.declared.progress.Progress.{Progress}
 use Rattle.goals.specs.declared.rest.Rest.{Rest}
 use Rattle.goals.specs.declared.token.Sign.{Sign}
@@ -7,7 +7,7 @@ use Rattle.goals.specs.Tokens.{mark}
 use Rattle.goals.specs.Seen.{tokens_in, mark_of}
 use Rattle.goals.specs.Syntax as syntax
 use Rattle.goals.specs.Reading.{run, wants}
-use Rattle.goals.specs.Promises.{vocabulary, Here, PrefixSays}
+use Rattle.goals.specs.Promises.{vocabulary, Here, PrefixSays, PrefixRead}
 use Rattle.goals.proofs.Terms.{broke, told_as}
 use Rattle.goals.proofs.Prefixes.{no_prefix, unary-over, unary_read, timed-prefix, quantified-prefix}
 use Rattle.goals.proofs.words.Reader.prefix.Goals as goal
@@ -26,7 +26,7 @@ returns-in_err-take-in-Not c =
 pub returns-in_ok-take-in-Not : goal.returns-in_ok-take-in-Not
 returns-in_ok-take-in-Not c =
     let h = sign_here c.args.s.now c.args.token.place c.args.token.rest c.args.sign sign.Not c.requires.here c.in-Not.is in
-    unary_read (vocabulary c.args.self.now.words) syntax.not h c.args.self.now.scope c.in_ok-take-in-Not.ensures
+    subst (PrefixRead (vocabulary c.args.self.now.words) c.args.self.now.scope c.args.s.now _) (sym c.opening.ensures) (unary_read (vocabulary c.args.self.now.words) syntax.not h c.args.self.now.scope c.in_ok-take-in-Not.ensures)
 
 pub returns-in_err-take-in-Next : goal.returns-in_err-take-in-Next
 returns-in_err-take-in-Next c =
@@ -38,7 +38,7 @@ returns-in_err-take-in-Next c =
 pub returns-in_ok-take-in-Next : goal.returns-in_ok-take-in-Next
 returns-in_ok-take-in-Next c =
     let h = sign_here c.args.s.now c.args.token.place c.args.token.rest c.args.sign sign.Next c.requires.here c.in-Next.is in
-    unary_read (vocabulary c.args.self.now.words) syntax.next h c.args.self.now.scope c.in_ok-take-in-Next.ensures
+    subst (PrefixRead (vocabulary c.args.self.now.words) c.args.self.now.scope c.args.s.now _) (sym c.opening-in-Next.ensures) (unary_read (vocabulary c.args.self.now.words) syntax.next h c.args.self.now.scope c.in_ok-take-in-Next.ensures)
 
 pub returns-in_err-t-in-Eventually : goal.returns-in_err-t-in-Eventually
 returns-in_err-t-in-Eventually c =
@@ -49,7 +49,7 @@ returns-in_err-t-in-Eventually c =
 pub returns-in_ok-t-in-Eventually : goal.returns-in_ok-t-in-Eventually
 returns-in_ok-t-in-Eventually c =
     let h = sign_here c.args.s.now c.args.token.place c.args.token.rest c.args.sign sign.Eventually c.requires.here c.in-Eventually.is in
-    timed-prefix c.args.self.now.scope (c.in_ok-t-in-Eventually.ensures (vocabulary c.args.self.now.words) syntax.eventually refl h)
+    subst (PrefixRead (vocabulary c.args.self.now.words) c.args.self.now.scope c.args.s.now _) (sym c.opening-in-Eventually.ensures) (timed-prefix c.args.self.now.scope (c.in_ok-t-in-Eventually.ensures (vocabulary c.args.self.now.words) syntax.eventually refl h))
 
 pub returns-in_err-t-in-Always : goal.returns-in_err-t-in-Always
 returns-in_err-t-in-Always c =
@@ -60,7 +60,7 @@ returns-in_err-t-in-Always c =
 pub returns-in_ok-t-in-Always : goal.returns-in_ok-t-in-Always
 returns-in_ok-t-in-Always c =
     let h = sign_here c.args.s.now c.args.token.place c.args.token.rest c.args.sign sign.Always c.requires.here c.in-Always.is in
-    timed-prefix c.args.self.now.scope (c.in_ok-t-in-Always.ensures (vocabulary c.args.self.now.words) syntax.henceforth refl h)
+    subst (PrefixRead (vocabulary c.args.self.now.words) c.args.self.now.scope c.args.s.now _) (sym c.opening-in-Always.ensures) (timed-prefix c.args.self.now.scope (c.in_ok-t-in-Always.ensures (vocabulary c.args.self.now.words) syntax.henceforth refl h))
 
 pub returns-in_err-b-in-ForAll : goal.returns-in_err-b-in-ForAll
 returns-in_err-b-in-ForAll c =
@@ -71,7 +71,7 @@ returns-in_err-b-in-ForAll c =
 pub returns-in_ok-b-in-ForAll : goal.returns-in_ok-b-in-ForAll
 returns-in_ok-b-in-ForAll c =
     let h = sign_here c.args.s.now c.args.token.place c.args.token.rest c.args.sign sign.ForAll c.requires.here c.in-ForAll.is in
-    quantified-prefix c.next.result c.binding.result c.next.ensures c.binding.ensures (c.in_ok-b-in-ForAll.ensures syntax.for_all h)
+    subst (PrefixRead (vocabulary c.args.self.now.words) c.args.self.now.scope c.args.s.now _) (sym c.opening-in-ForAll.ensures) (quantified-prefix c.next.result c.binding.result c.next.ensures c.binding.ensures (c.in_ok-b-in-ForAll.ensures syntax.for_all h))
 
 pub returns-in_err-b-in-Exists : goal.returns-in_err-b-in-Exists
 returns-in_err-b-in-Exists c =
@@ -82,7 +82,7 @@ returns-in_err-b-in-Exists c =
 pub returns-in_ok-b-in-Exists : goal.returns-in_ok-b-in-Exists
 returns-in_ok-b-in-Exists c =
     let h = sign_here c.args.s.now c.args.token.place c.args.token.rest c.args.sign sign.Exists c.requires.here c.in-Exists.is in
-    quantified-prefix c.next-in-Exists.result c.binding-in-Exists.result c.next-in-Exists.ensures c.binding-in-Exists.ensures (c.in_ok-b-in-Exists.ensures syntax.exists h)
+    subst (PrefixRead (vocabulary c.args.self.now.words) c.args.self.now.scope c.args.s.now _) (sym c.opening-in-Exists.ensures) (quantified-prefix c.next-in-Exists.result c.binding-in-Exists.result c.next-in-Exists.ensures c.binding-in-Exists.ensures (c.in_ok-b-in-Exists.ensures syntax.exists h))
 
 pub returns-in_default : goal.returns-in_default
 returns-in_default c =

@@ -5,8 +5,8 @@ use Rattle.std.specs.Option.{option_copied}
 use Rattle.std.proofs.lemmas.Bool.{and_parts, and_from, ltb-true}
 use Rattle.std.proofs.lemmas.List.Folds.{list_all-append}
 use Rattle.std.proofs.lemmas.Bool.Decides.{nat_tests}
-use Rattle.std.proofs.lemmas.List.{length-take-le, get_or-take, take_more_set}
-use Rattle.std.proofs.lemmas.Option.{slice_get-get_or, slice_get_past}
+use Rattle.std.proofs.lemmas.List.{take_more_set}
+use Rattle.std.proofs.lemmas.Option.{slice_get-get_or}
 use Rattle.goals.specs.declared.operation.Operation.{Operation}
 use Rattle.goals.specs.declared.operation.Entry.{Entry}
 use Rattle.goals.specs.CatalogueRules.{sound_counts}
@@ -34,17 +34,6 @@ pub inside-got : (ids : ℕ) (os : List Operation) (k : ℕ) (r : Option (Bor Op
 inside-got ids os k None h i e = tt
 inside-got ids os k (Some x) h i e =
     inside-at ids os k x.now h (slice_get-get_or os k x.now (ltb-true k (length os) (sym i)) ∙ ap Some (sym e))
-
--- the first entries of a list, as many as are in use
-pub length_front : {X : Type 0} (xs : List X) (n : ℕ) → n ≤ length xs → length (take n xs) ≡ n
-length_front xs n h = length-take-le n xs h
-
-pub nth_front : {X : Type 0} (xs : List X) (n i : ℕ) (d : X) → i < n → n ≤ length xs → slice_get (take n xs) i ≡ Some (get_or xs i d)
-nth_front xs n i d lt le =
-    slice_get-get_or (take n xs) i d (omega (arith, length-take-le n xs le)) ∙ ap Some (get_or-take n xs i d lt)
-
-pub nth_behind : {X : Type 0} (xs : List X) (n i : ℕ) → n ≤ i → n ≤ length xs → slice_get (take n xs) i ≡ None
-nth_behind xs n i h le = slice_get_past (take n xs) i (omega (arith, length-take-le n xs le))
 
 -- counts within the limits, as inequalities
 pub counts_in_limits_lem : (ids predicates operations : ℕ) → sound_counts ids predicates operations ≡ true → (0 < ids) × (predicates ≤ 16) × (operations ≤ 64)

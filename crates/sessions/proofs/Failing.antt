@@ -7,11 +7,6 @@ use Rattle.goals.specs.declared.operation.Entry.{Entry}
 use Rattle.sessions.specs.declared.step.Arguments.{Arguments}
 use Rattle.sessions.specs.Steps.{need_holds, failing_from}
 
-pub nth_each : {X Y : Type 0} (f : X → Y) (xs : List X) (k : ℕ) → option_map f (slice_get xs k) ≡ slice_get (map f xs) k
-nth_each f [] k = refl
-nth_each f (x ∷ xs) zero = refl
-nth_each f (x ∷ xs) (suc k) = nth_each f xs k
-
 -- the first need that fails the test is the first that does not hold
 pub failing-position : (m : Meaning) (a : Arguments) (n : ℕ) (es : List Entry) → position_from (λ e. not (need_holds m a e)) n es ≡ failing_from m a n es
 unfolding failing_from

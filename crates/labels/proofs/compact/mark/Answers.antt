@@ -34,6 +34,3 @@ seen c =
 
 pub loop-k-preserved : goal.loop-k-preserved
 loop-k-preserved c = subst (λ (j : ℕ). Marking (vec_items c.args.source.now.items) c.args.root j c.if-marks-k.marks) (omega arith) (seen (goal.at.loop-k-preserved c).Joined-marks-k)
-
-pub returns-after-marks-k : goal.returns-after-marks-k
-returns-after-marks-k c = subst (λ (j : ℕ). Marking (vec_items c.args.source.now.items) c.args.root j c.if-marks-k.marks) (omega arith) (seen (goal.at.returns-after-marks-k c).Joined-marks-k)

@@ -104,7 +104,7 @@ pub fn waiting(
 }
 
 // What is left of an until after the span.
-pub fn rest(
+fn rest(
     table: &mut Table<MOST_WORK>,
     span: Span,
     node: usize,

@@ -164,17 +164,6 @@ module _ (t : List Part) (order : InOrder t) (root : ℕ) (rl : root < length t)
     ];
   }
 
-  pub mark-skip : (marks : List Bool) (k : ℕ) → get_or marks k false ≡ false → Marking t root (suc k) marks → Marking t root k marks
-  mark-skip marks k e m = record {
-    inside = m.inside;
-    sound = m.sound;
-    top = m.top;
-    closed = λ j le f. elim (dec_lt k j) [
-      | yes l ↦ m.closed j (omega arith) f
-      | no n ↦ let i : j ≡ k = omega arith in absurd (false≢true (sym e ∙ (ap (λ (x : ℕ). get_or marks x false) (sym i) ∙ f)))
-    ];
-  }
-
   pub mark-more : (marks : List Bool) (k : ℕ) → k ≤ root → root < length marks → get_or marks k false ≡ true →
       (p : Part) → get_or t k True ≡ p → Marking t root (suc k) marks → Marking t root k (marked p marks)
   mark-more marks k kr ml e p here m =

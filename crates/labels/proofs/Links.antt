@@ -1,17 +1,16 @@
 -- The chains of a table, as a part is looked for and as one is pushed.
-use Rattle.std.proofs.Common.{◌≡◌, ℕ, suc, ◌<◌, ◌≤◌, ◌≢◌, List, [], ◌∷◌, ◌++◌, length, Some, None, Option, get_or, set, sym, ap, ◌∙◌, subst, arith, length-append, get_or-set_other, get_or-set_same}
+use Rattle.std.proofs.Common.{◌≡◌, ℕ, suc, ◌<◌, ◌≤◌, ◌≢◌, List, [], ◌∷◌, ◌++◌, length, Some, None, Option, get_or, set, sym, refl, ap, ◌∙◌, subst, arith, length-append, get_or-set_other, get_or-set_same}
 use native.Mathlib.Decide.{dec_lt}
 use lib.ListN.{get_or-append}
 use lib.Seq.{get_or-append_seam}
 use Rattle.labels.specs.declared.part.Part.{Part}
 use Rattle.labels.specs.declared.part.Part.TheVariants.{True}
-use Rattle.labels.specs.Chains.{bucket, bucket_at, reach, Latest, Linked}
+use Rattle.labels.specs.Chains.{bucket, bucket_at, reach, Latest, Linked, Heads, Falls}
 
-abbrev pub Heads : List Part → List (Option ℕ) → Type 0
-Heads table heads = (b : ℕ) (k : ℕ) → get_or heads b None ≡ Some k → (k < length table) × (bucket_at table k ≡ b)
-
-abbrev pub Falls : List Part → List (Option ℕ) → Type 0
-Falls table next = (j k : ℕ) → (j < length table) × (get_or next j None ≡ Some k) → (k < j) × (bucket_at table k ≡ bucket_at table j)
+-- a link that goes to a part before `at`, or nowhere
+pub goes_before : (o : Option ℕ) (at : ℕ) → ((k : ℕ) → o ≡ Some k → k < at) → reach o ≤ at
+goes_before (Some k) at f = f k refl
+goes_before None at f = omega arith
 
 -- none of the parts before `at` is the one looked for, once the one there is not
 pub walk_on : (t : List Part) (next : List (Option ℕ)) (p : Part) (at : ℕ) → Linked t next →

@@ -123,9 +123,6 @@ module _ (N : ℕ) (s : Facts) (D : ℕ) where
     unfolding results
     results_are = refl
 
-    abbrev Gives : {E : Type 0} → ℕ → List Part → List Part → List Label → Result ℕ E → Type 0
-    Gives limit t u more r = Outcome limit t u whole more r
-
     pub hold_over : {limit : ℕ} {t : List Part} → Over limit t (results N s D φ b) → Over limit t (results N s D (until k e φ ψ) b)
     hold_over {limit} {t} o =
         subst (Over limit t) (sym results_are) (until-first-over whole (rest D k b e) both (results N s D φ b) (second late) o)

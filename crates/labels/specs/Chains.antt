@@ -36,18 +36,11 @@ abbrev pub Linked : List Part → List (Option ℕ) → Type 0
 Linked table next =
     (j k : ℕ) → (k < j) × (j < length table) × (bucket_at table k ≡ bucket_at table j) → k < reach (slice_index_or next j None)
 
--- the head of a bucket is a part of the table
-abbrev pub HeadsIn : List Part → List (Option ℕ) → Type 0
-HeadsIn table heads = (b k : ℕ) → slice_index_or heads b None ≡ Some k → k < length table
+-- the head of a bucket is a part of the table, and of that bucket
+abbrev pub Heads : List Part → List (Option ℕ) → Type 0
+Heads table heads = (b k : ℕ) → slice_index_or heads b None ≡ Some k → (k < length table) × (bucket_at table k ≡ b)
 
--- and of that bucket
-abbrev pub HeadsOf : List Part → List (Option ℕ) → Type 0
-HeadsOf table heads = (b k : ℕ) → slice_index_or heads b None ≡ Some k → bucket_at table k ≡ b
-
--- a link goes to a part before
-abbrev pub FallsIn : List Part → List (Option ℕ) → Type 0
-FallsIn table next = (j k : ℕ) → (j < length table) × (slice_index_or next j None ≡ Some k) → k < j
-
--- and of the same bucket
-abbrev pub FallsOf : List Part → List (Option ℕ) → Type 0
-FallsOf table next = (j k : ℕ) → (j < length table) × (slice_index_or next j None ≡ Some k) → bucket_at table k ≡ bucket_at table j
+-- a link goes to a part before, and of the same bucket
+abbrev pub Falls : List Part → List (Option ℕ) → Type 0
+Falls table next =
+    (j k : ℕ) → (j < length table) × (slice_index_or next j None ≡ Some k) → (k < j) × (bucket_at table k ≡ bucket_at table j)

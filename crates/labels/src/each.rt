@@ -48,8 +48,7 @@ impl<'a, R: Register> Step<'a, R> {
         ensures { WalksPart self.now.job.now (R.Register.meaning self.now.register.now) self.now.span table.old table.new part to.now result }
     {
         match part {
-            Part::True => table.add(Part::True),
-            Part::False => table.add(Part::False),
+            Part::True | Part::False => table.add(part),
             Part::Pending {
                 node,
                 binding,

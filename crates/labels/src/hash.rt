@@ -16,6 +16,7 @@ fn end_number(upper: Option<Span>) -> usize
 }
 
 // The bucket of a part.
+#[tactic(auto, unfolding(crate::specs::Chains::bucket))]
 pub fn hash(part: Part) -> usize
     ensures value { result ≡ bucket part }
     ensures bound { result < 1024 }

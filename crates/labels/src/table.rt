@@ -1,6 +1,6 @@
 ghost use Rattle.std.specs.Prelude.{◌≡◌, ◌≢◌, ℕ, ◌<◌, ◌≤◌, true, [], ◌∷◌, length, IfOk, MatchOption, vec_len, vec_capacity, slice_index_or};
 ghost use Rattle.labels.specs.declared.part.Part.TheVariants.{True};
-ghost use Rattle.labels.specs.Chains.{Latest, Linked, HeadsIn, HeadsOf, FallsIn, FallsOf};
+ghost use Rattle.labels.specs.Chains.{Latest, Linked, Heads, Falls};
 ghost use Rattle.labels.specs.Table.{composed, label_at, before, InOrder, NoTwins};
 ghost use Rattle.labels.specs.Growth.{Added};
 
@@ -28,10 +28,8 @@ pub struct Table<const LIMIT: usize> {
     ghost spare: { LIMIT ≤ vec_capacity next },
     ghost latest: { Latest items.items heads.items },
     ghost linked: { Linked items.items next.items },
-    ghost inside: { HeadsIn items.items heads.items },
-    ghost own: { HeadsOf items.items heads.items },
-    ghost earlier: { FallsIn items.items next.items },
-    ghost alongside: { FallsOf items.items next.items },
+    ghost own: { Heads items.items heads.items },
+    ghost earlier: { Falls items.items next.items },
 }
 
 impl<const LIMIT: usize> Table<LIMIT> {

@@ -104,7 +104,7 @@ pub fn waiting(
 }
 
 // What is left of an until after the span.
-pub fn rest(
+fn rest(
     table: &mut Table<MOST_WORK>,
     span: Span,
     node: usize,
@@ -125,6 +125,7 @@ pub fn rest(
 }
 
 // What a step is worked out by: the job, the register that has the facts before it, and its span.
+// The table that it fills is passed beside it: as a field, each contract would have to say that the other three stay.
 #[derive(Drop)]
 pub struct Step<'a, R> {
     pub job: &'a Job,

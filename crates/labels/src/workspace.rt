@@ -9,6 +9,7 @@ pub const MOST_WORK: usize = 4096;
 
 // Room for the work of a step, used again by each step: the labels worked out, the new label, and for each part of a table
 // the place that its progress or its copy has, and a mark.
+// Places and marks are two Vecs: idling takes the marks alone, and a copy reads marks while it writes places.
 #[derive(Drop)]
 pub struct Workspace {
     pub(crate) work: Table<MOST_WORK>,

@@ -3,7 +3,7 @@ use Rattle.std.proofs.lemmas.List.{length-set}
 use Rattle.labels.specs.declared.part.Part.{Part}
 use Rattle.labels.specs.Marks.{Marking}
 use Rattle.labels.proofs.Filled.{filled}
-use Rattle.labels.proofs.Copies.{mark-root, mark-more, mark-skip}
+use Rattle.labels.proofs.Copies.{mark-root, mark-more, mark_skip}
 use Rattle.labels.proofs.compact.mark.Goals as goal
 use Rattle.labels.proofs.compact.mark.Goals.{then-marks-k, else-marks-k, Joined-marks-k}
 
@@ -29,11 +29,8 @@ seen c =
       | then-marks-k w' ↦ rw (w'.marks-is, w'.mark_own.ensures)
           (mark-more t c.args.source.now.order root w c.loop-k.marks k (omega arith) (omega (arith, length-set {A = Bool})) w'.if-marks-k.true
           w'.part.result (sym w'.part.ensures) m)
-      | else-marks-k w' ↦ rw w'.marks-is (mark-skip t c.args.source.now.order root w c.loop-k.marks k w'.if-marks-k.false m)
+      | else-marks-k w' ↦ rw w'.marks-is (mark_skip t c.args.source.now.order root w c.loop-k.marks k w'.if-marks-k.false m)
     ]
 
 pub loop-k-preserved : goal.loop-k-preserved
 loop-k-preserved c = subst (λ (j : ℕ). Marking (vec_items c.args.source.now.items) c.args.root j c.if-marks-k.marks) (omega arith) (seen (goal.at.loop-k-preserved c).Joined-marks-k)
-
-pub returns-after-marks-k : goal.returns-after-marks-k
-returns-after-marks-k c = subst (λ (j : ℕ). Marking (vec_items c.args.source.now.items) c.args.root j c.if-marks-k.marks) (omega arith) (seen (goal.at.returns-after-marks-k c).Joined-marks-k)

@@ -36,9 +36,7 @@ invariant_of-self g c =
     let last : c.index-last.result.now ≡ get_or hs c.hash-bucket.result None =
     get_or_read hs c.hash-bucket.result c.index-last.result.now (omega arith) c.index-last.ensures None in
     let i = index_pushed t hs ns c.args.part c.len-n.result (omega arith) (omega arith) (omega arith)
-    c.args.self.now.latest c.args.self.now.linked
-    (λ b k e. (c.args.self.now.inside b k e, c.args.self.now.own b k e))
-    (λ j k h. (c.args.self.now.earlier j k h, c.args.self.now.alongside j k h))
+    c.args.self.now.latest c.args.self.now.linked c.args.self.now.own c.args.self.now.earlier
     (vec_items c.push_reserved.new.self) (vec_items c.push_reserved-2.new.self) c.hash-bucket.result c.index-last.result.now
     c.push_reserved.ensures.items c.push_reserved-2.ensures.items c.hash-bucket.ensures.value last in
     record {
@@ -51,10 +49,8 @@ invariant_of-self g c =
       spare = omega arith;
       latest = i.0;
       linked = i.1;
-      inside = λ b k e. (i.2 b k e).0;
-      own = λ b k e. (i.2 b k e).1;
-      earlier = λ j k h. (i.3 j k h).0;
-      alongside = λ j k h. (i.3 j k h).1;
+      own = i.2;
+      earlier = i.3;
     }
 
 pub returns : goal.returns

@@ -3,7 +3,7 @@ use Rattle.std.proofs.lemmas.List.{get_or_read}
 use Rattle.labels.specs.declared.part.Part.{Part}
 use Rattle.labels.specs.declared.part.Part.TheVariants.{True}
 use Rattle.labels.specs.Chains.{bucket, reach}
-use Rattle.labels.proofs.Links.{walk_on}
+use Rattle.labels.proofs.Links.{goes_before, walk_on}
 use Rattle.labels.proofs.table.Table.find.Goals as goal
 
 pub loop-link-init : goal.loop-link-init
@@ -15,7 +15,7 @@ loop-link-init g c =
     let same : b ≡ bucket c.args.part = c.hash.ensures.value in (
       (λ k kl e.
           subst (λ (o : Option ℕ). k < reach o) (ap (λ (i : ℕ). get_or hs i None) (ap bucket e ∙ sym same) ∙ sym here) (c.args.self.now.latest k kl)),
-      (λ k e. (c.args.self.now.inside b k (sym here ∙ e), c.args.self.now.own b k (sym here ∙ e) ∙ same)),
+      (λ k e. let h = c.args.self.now.own b k (sym here ∙ e) in (h.0, h.1 ∙ same)),
     )
 
 pub index-requires : goal.index-requires
@@ -23,6 +23,18 @@ index-requires g c =
     let v : vec_len c.args.self.now.items ≡ length (vec_items c.args.self.now.items) = c.args.self.now.items.ok.0 in
     let h = c.loop-link.invariant.1 c.in-Some.at c.in-Some.is in
     omega (arith, h.0)
+
+pub loop-link-smaller : goal.loop-link-smaller
+loop-link-smaller g c =
+    let ns : List (Option ℕ) = vec_items c.args.self.now.next in
+    let v : vec_len c.args.self.now.items ≡ length (vec_items c.args.self.now.items) = c.args.self.now.items.ok.0 in
+    let x : vec_len c.args.self.now.next ≡ length ns = c.args.self.now.next.ok.0 in
+    let at : ℕ = c.in-Some.at in
+    let lt : at < length (vec_items c.args.self.now.items) = (c.loop-link.invariant.1 at c.in-Some.is).0 in
+    let here : c.index-link-in-Some.result.now ≡ get_or ns at None = get_or_read ns at c.index-link-in-Some.result.now (omega arith) c.index-link-in-Some.ensures None in
+    let h = goes_before c.index-link-in-Some.result.now at (λ k e. (c.args.self.now.earlier at k (lt, sym here ∙ e)).0) in
+    let f = ap reach c.in-Some.is in
+    omega arith
 
 pub loop-link-preserved : goal.loop-link-preserved
 loop-link-preserved g c =
@@ -39,6 +51,8 @@ loop-link-preserved g c =
     λ k kl e. let i = c.loop-link.invariant.0 k kl e in let f = ap reach c.in-Some.is in omega arith in
     let w = walk_on t ns c.args.part at c.args.self.now.linked inv lt h.1 (λ e. search rules) in (
       (λ k kl e. subst (λ (o : Option ℕ). k < reach o) (sym here) (w k kl e)),
-      (λ k e. let f = c.args.self.now.earlier at k (lt, sym here ∙ e) in
-          (omega arith, c.args.self.now.alongside at k (lt, sym here ∙ e) ∙ h.1)),
+      (λ k e.
+          let f = c.args.self.now.earlier at k (lt, sym here ∙ e) in
+          let before : k < at = f.0 in
+          (omega arith, f.1 ∙ h.1)),
     )

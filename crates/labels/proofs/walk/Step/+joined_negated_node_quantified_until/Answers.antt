@@ -189,7 +189,6 @@ negated-returns-in_err-p g t c =
     let S : Facts = facts_of (g.R.Register.meaning c.args.self.now.register.now) in
     let D : ℕ = c.args.self.now.span.hours in
     let nodes : List Node = nodes_of c.args.self.now.job.now in
-    let T0 : List Part = vec_items c.args.table.now.items in
     let φ : Goal = goal_of_node nodes c.args.number in
     let B = c.args.binding in
     let p = progress N S D φ B in
@@ -199,12 +198,6 @@ negated-returns-in_err-p g t c =
 
 pub negated-returns : goal.negated-returns
 negated-returns g t c =
-    let N : ℕ = ids_of c.args.self.now.job.now in
-    let S : Facts = facts_of (g.R.Register.meaning c.args.self.now.register.now) in
-    let D : ℕ = c.args.self.now.span.hours in
-    let nodes : List Node = nodes_of c.args.self.now.job.now in
-    let T0 : List Part = vec_items c.args.table.now.items in
-    let u : List Part = vec_items c.node.new.table.items in
     let v : List Part = vec_items c.negate.new.self.items in
     after-negate 4096 v c.in_ok-p.p c.negate.result c.in_ok-p.ensures
     c.negate.ensures
@@ -215,7 +208,6 @@ joined-returns-in_err-p g t c =
     let S : Facts = facts_of (g.R.Register.meaning c.args.self.now.register.now) in
     let D : ℕ = c.args.self.now.span.hours in
     let nodes : List Node = nodes_of c.args.self.now.job.now in
-    let T0 : List Part = vec_items c.args.table.now.items in
     let φ : Goal = goal_of_node nodes c.args.pair.left in
     let ψ : Goal = goal_of_node nodes c.args.pair.right in
     let B = c.args.binding in
@@ -233,7 +225,6 @@ joined-returns-in_err-q g t c =
     let S : Facts = facts_of (g.R.Register.meaning c.args.self.now.register.now) in
     let D : ℕ = c.args.self.now.span.hours in
     let nodes : List Node = nodes_of c.args.self.now.job.now in
-    let T0 : List Part = vec_items c.args.table.now.items in
     let φ : Goal = goal_of_node nodes c.args.pair.left in
     let ψ : Goal = goal_of_node nodes c.args.pair.right in
     let B = c.args.binding in
@@ -248,20 +239,7 @@ joined-returns-in_err-q g t c =
 
 pub joined-returns : goal.joined-returns
 joined-returns g t c =
-    let N : ℕ = ids_of c.args.self.now.job.now in
-    let S : Facts = facts_of (g.R.Register.meaning c.args.self.now.register.now) in
-    let D : ℕ = c.args.self.now.span.hours in
-    let nodes : List Node = nodes_of c.args.self.now.job.now in
-    let T0 : List Part = vec_items c.args.table.now.items in
-    let φ : Goal = goal_of_node nodes c.args.pair.left in
-    let ψ : Goal = goal_of_node nodes c.args.pair.right in
-    let B = c.args.binding in
     let J = join_by c.args.pair.by in
-    let p = progress N S D φ B in
-    let q = progress N S D ψ B in
-    let a = results N S D φ B in
-    let b = results N S D ψ B in
-    let v : List Part = (vec_items c.node-2.new.table.items) in
     let w : List Part = (vec_items c.join.new.self.items) in
     after-join 4096 w J c.in_ok-p.p c.in_ok-q.q c.join.result c.in_ok-p.ensures c.in_ok-q.ensures
     c.join.ensures
@@ -272,7 +250,6 @@ until-returns-in_err-p g t c =
     let S : Facts = facts_of (g.R.Register.meaning c.args.self.now.register.now) in
     let D : ℕ = c.args.self.now.span.hours in
     let nodes : List Node = nodes_of c.args.self.now.job.now in
-    let T0 : List Part = vec_items c.args.table.now.items in
     let k : ℕ = c.args.wait.node in
     let e = c.args.wait.ends in
     let φ : Goal = goal_of_node nodes c.args.wait.hold in
@@ -289,7 +266,6 @@ until-returns-in_err-later g t c =
     let S : Facts = facts_of (g.R.Register.meaning c.args.self.now.register.now) in
     let D : ℕ = c.args.self.now.span.hours in
     let nodes : List Node = nodes_of c.args.self.now.job.now in
-    let T0 : List Part = vec_items c.args.table.now.items in
     let k : ℕ = c.args.wait.node in
     let e = c.args.wait.ends in
     let φ : Goal = goal_of_node nodes c.args.wait.hold in
@@ -306,7 +282,6 @@ until-returns-in_err-q g t c =
     let S : Facts = facts_of (g.R.Register.meaning c.args.self.now.register.now) in
     let D : ℕ = c.args.self.now.span.hours in
     let nodes : List Node = nodes_of c.args.self.now.job.now in
-    let T0 : List Part = vec_items c.args.table.now.items in
     let k : ℕ = c.args.wait.node in
     let e = c.args.wait.ends in
     let φ : Goal = goal_of_node nodes c.args.wait.hold in
@@ -323,14 +298,11 @@ until-returns-then-wait-gt0 g t c =
     let S : Facts = facts_of (g.R.Register.meaning c.args.self.now.register.now) in
     let D : ℕ = c.args.self.now.span.hours in
     let nodes : List Node = nodes_of c.args.self.now.job.now in
-    let T0 : List Part = vec_items c.args.table.now.items in
     let k : ℕ = c.args.wait.node in
     let e = c.args.wait.ends in
     let φ : Goal = goal_of_node nodes c.args.wait.hold in
     let ψ : Goal = goal_of_node nodes c.args.wait.reach in
     let B = c.args.binding in
-    let X = progress N S D (until k e φ ψ) B in
-    let M = results N S D (until k e φ ψ) B in
     waits N S D k e φ ψ B c.in_ok-p.p c.in_ok-later.later c.in_ok-p.ensures c.in_ok-later.ensures c.in_ok-q.q c.in_ok-q.ensures c.if-wait-gt0.true
 
 pub until-returns-in_err-reached : goal.until-returns-in_err-reached
@@ -339,7 +311,6 @@ until-returns-in_err-reached g t c =
     let S : Facts = facts_of (g.R.Register.meaning c.args.self.now.register.now) in
     let D : ℕ = c.args.self.now.span.hours in
     let nodes : List Node = nodes_of c.args.self.now.job.now in
-    let T0 : List Part = vec_items c.args.table.now.items in
     let k : ℕ = c.args.wait.node in
     let e = c.args.wait.ends in
     let φ : Goal = goal_of_node nodes c.args.wait.hold in
@@ -356,14 +327,11 @@ until-returns g t c =
     let S : Facts = facts_of (g.R.Register.meaning c.args.self.now.register.now) in
     let D : ℕ = c.args.self.now.span.hours in
     let nodes : List Node = nodes_of c.args.self.now.job.now in
-    let T0 : List Part = vec_items c.args.table.now.items in
     let k : ℕ = c.args.wait.node in
     let e = c.args.wait.ends in
     let φ : Goal = goal_of_node nodes c.args.wait.hold in
     let ψ : Goal = goal_of_node nodes c.args.wait.reach in
     let B = c.args.binding in
-    let X = progress N S D (until k e φ ψ) B in
-    let M = results N S D (until k e φ ψ) B in
     reaches-it N S D k e φ ψ B c.in_ok-p.p c.in_ok-later.later c.in_ok-p.ensures c.in_ok-later.ensures c.in_ok-q.q c.in_ok-q.ensures c.if-wait-gt0.false 4096 (vec_items c.join-2.new.self.items) c.in_ok-reached.reached c.join-2.result
     c.in_ok-reached.ensures c.join-2.ensures
 
@@ -373,7 +341,6 @@ quantified-returns-in_err-so_far g t c =
     let S : Facts = facts_of (g.R.Register.meaning c.args.self.now.register.now) in
     let D : ℕ = c.args.self.now.span.hours in
     let nodes : List Node = nodes_of c.args.self.now.job.now in
-    let T0 : List Part = vec_items c.args.table.now.items in
     let by = c.args.range.by in
     let v = c.args.range.variable in
     let at = c.args.range.bound in
@@ -390,14 +357,11 @@ quantified-loop-id-init g t c =
     let S : Facts = facts_of (g.R.Register.meaning c.args.self.now.register.now) in
     let D : ℕ = c.args.self.now.span.hours in
     let nodes : List Node = nodes_of c.args.self.now.job.now in
-    let T0 : List Part = vec_items c.args.table.now.items in
     let by = c.args.range.by in
     let v = c.args.range.variable in
     let at = c.args.range.bound in
     let φ : Goal = goal_of_node nodes c.args.range.body in
     let B = c.args.binding in
-    let X = joined_to N S D by v at φ B N in
-    let M = results_to N S D by v at φ B N in
     begins N S D by v at φ B c.start.new.self.order c.in_ok-so_far.ensures
 
 pub quantified-returns-in_err-p : goal.quantified-returns-in_err-p
@@ -406,7 +370,6 @@ quantified-returns-in_err-p g t c =
     let S : Facts = facts_of (g.R.Register.meaning c.args.self.now.register.now) in
     let D : ℕ = c.args.self.now.span.hours in
     let nodes : List Node = nodes_of c.args.self.now.job.now in
-    let T0 : List Part = vec_items c.args.table.now.items in
     let by = c.args.range.by in
     let v = c.args.range.variable in
     let at = c.args.range.bound in
@@ -426,7 +389,6 @@ quantified-returns-in_err-so_far-2 g t c =
     let S : Facts = facts_of (g.R.Register.meaning c.args.self.now.register.now) in
     let D : ℕ = c.args.self.now.span.hours in
     let nodes : List Node = nodes_of c.args.self.now.job.now in
-    let T0 : List Part = vec_items c.args.table.now.items in
     let by = c.args.range.by in
     let v = c.args.range.variable in
     let at = c.args.range.bound in
@@ -447,14 +409,11 @@ quantified-loop-id-preserved g t c =
     let S : Facts = facts_of (g.R.Register.meaning c.args.self.now.register.now) in
     let D : ℕ = c.args.self.now.span.hours in
     let nodes : List Node = nodes_of c.args.self.now.job.now in
-    let T0 : List Part = vec_items c.args.table.now.items in
     let by = c.args.range.by in
     let v = c.args.range.variable in
     let at = c.args.range.bound in
     let φ : Goal = goal_of_node nodes c.args.range.body in
     let B = c.args.binding in
-    let X = joined_to N S D by v at φ B N in
-    let M = results_to N S D by v at φ B N in
     let Goes : Table 4096 → ℕ → Type 0 = λ tb j. Made (vec_items c.start.new.self.items) (vec_items tb.items) (joined_to N S D by v at φ B (c.loop-id.id + 1)) (results_to N S D by v at φ B (c.loop-id.id + 1)) j in
     elim c.if-is_fact.branch [
       | quantified-then-is_fact+in_ok-p+in_ok-so_far-2 w ↦
@@ -474,13 +433,10 @@ quantified-returns g t c =
     let S : Facts = facts_of (g.R.Register.meaning c.args.self.now.register.now) in
     let D : ℕ = c.args.self.now.span.hours in
     let nodes : List Node = nodes_of c.args.self.now.job.now in
-    let T0 : List Part = vec_items c.args.table.now.items in
     let by = c.args.range.by in
     let v = c.args.range.variable in
     let at = c.args.range.bound in
     let φ : Goal = goal_of_node nodes c.args.range.body in
     let B = c.args.binding in
-    let X = joined_to N S D by v at φ B N in
-    let M = results_to N S D by v at φ B N in
     let n : c.loop-id.id ≡ N = omega (arith, c.ids-id-end.ensures) in
     all_turns N S D by v at φ B c.loop-id.id n c.in_ok-so_far.ensures c.loop-id.invariant

@@ -19,14 +19,15 @@ impl Label {
         let node = job.root();
         let ends = own_ends(node_at(job, node));
         let binding = Binding { outer: 0, inner: 0 };
-        match table.add(Part::Pending {
+        let pending = Part::Pending {
             node,
             binding,
             ends,
-        }) {
-            Ok(root) => Label { table, root },
-            Err(_) => unreachable(),
-        }
+        };
+        let Ok(root) = table.add(pending) else {
+            unreachable!()
+        };
+        Label { table, root }
     }
 
     // How many distinct parts the label has, itself included.

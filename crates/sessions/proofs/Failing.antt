@@ -1,7 +1,6 @@
 -- The first need that fails, need by need; the facts that entries name, one by one.
-use Rattle.std.proofs.Common.{◌≡◌, ℕ, zero, suc, ◌+◌, Bool, true, false, cond, not, List, [], ◌∷◌, map, Some, refl, ap, ◌∙◌}
-use Rattle.std.specs.Option.{option_map}
-use Rattle.std.specs.List.{slice_get, position_from}
+use Rattle.std.proofs.Common.{◌≡◌, ℕ, ◌+◌, Bool, true, false, cond, not, List, [], ◌∷◌, Some, refl, ap, ◌∙◌}
+use Rattle.std.specs.List.{position_from}
 use Rattle.registers.specs.Meaning.{Meaning}
 use Rattle.goals.specs.declared.operation.Entry.{Entry}
 use Rattle.sessions.specs.declared.step.Arguments.{Arguments}

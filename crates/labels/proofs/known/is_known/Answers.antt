@@ -1,6 +1,5 @@
 use Rattle.std.proofs.Common.{◌≡◌, ℕ, true, false, ◌&&◌, ltb, List, vec_items, ◌∙◌, ap₂, rules}
 use Rattle.std.proofs.lemmas.Iterator.{cases_from_all, YieldsList-from_slice}
-use Rattle.goals.specs.JobView.{sound}
 use Rattle.labels.specs.declared.part.Part.{Part}
 use Rattle.labels.specs.Known.{ids_below, known_part}
 use Rattle.labels.specs.Labels.{every_pending}
@@ -19,4 +18,4 @@ returns c =
     let told = cases_from_all _ _ c.all.result (λ p. known_part n N p ≡ true) (λ p. known_part n N p ≡ false) c.all.ensures.ran
     (YieldsList-from_slice t cc) (λ x q k. search rules) (λ x q k. search rules) in
     all_told (λ k b e. ltb k n && ids_below N b) t l.table.order l.root l.inside l.only c.all.result told
-      ∙ ap₂ (λ x y. every_pending (λ k b e. ltb k x && ids_below y b) (label_at t l.root)) c.node_count-nodes.ensures c.ids-ids.ensures
+    ∙ ap₂ (λ x y. every_pending (λ k b e. ltb k x && ids_below y b) (label_at t l.root)) c.node_count-nodes.ensures c.ids-ids.ensures

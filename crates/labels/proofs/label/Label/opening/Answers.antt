@@ -21,7 +21,7 @@ unreachable-requires c =
     let q : Label = pending c.root-node.result unbound c.own_ends-ends.result in
     let e = none-is-empty (vec_items c.args.room.table.items) c.args.room.empty in
     one-fits c.root-node.result unbound c.own_ends-ends.result
-    (subst (λ (t : List Part). Over 512 t (q ∷ [])) e c.in-Err.ensures)
+    (subst (λ (t : List Part). Over 512 t (q ∷ [])) e c.in_default.ensures)
 
 opens : (nodes : List Node) (root k : ℕ) (e : Ends) (nd : Node) → k ≡ root → e ≡ node_ends nd → nd ≡ get_or nodes k True →
     pending k unbound e ≡ waiting (goal_of_node nodes root) unbound

@@ -32,9 +32,11 @@ fn main(rt: HostRuntime) -> anyhow::Result<()> {
 
 // Each benchmark has this test and the loop below itself: a library's function over arguments and clocks could promise nothing.
 fn is_timed(rt: &HostRuntime) -> anyhow::Result<bool> {
-    Ok(env::args(rt)?
-        .skip(1)
-        .any(|argument| argument.as_str() == "time"))
+    Ok(
+        env::args(rt)?
+            .skip(1)
+            .any(|argument| argument.as_str() == "time"),
+    )
 }
 
 fn print_sizes(rt: &HostRuntime, workload: Workload) -> anyhow::Result<()> {

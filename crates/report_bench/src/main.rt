@@ -45,9 +45,11 @@ fn sum_of(bytes: &[u8]) -> u16 {
 
 // Each benchmark has this test and the loop below itself: a library's function over arguments and clocks could promise nothing.
 fn is_timed(rt: &HostRuntime) -> anyhow::Result<bool> {
-    Ok(env::args(rt)?
-        .skip(1)
-        .any(|argument| argument.as_str() == "time"))
+    Ok(
+        env::args(rt)?
+            .skip(1)
+            .any(|argument| argument.as_str() == "time"),
+    )
 }
 
 fn quickest(rt: &HostRuntime, file: &[u8]) -> anyhow::Result<u128> {

@@ -18,17 +18,15 @@ const IDS: u16 = 128;
 // How often a text is read in a run.
 const READINGS: u32 = 1000;
 
-// So many units, joined by `&`.
+// So many units, one at least, joined by `&`.
 pub fn text_of(heap: Global, units: usize) -> Result<Vec<u8>, AllocError> {
     let mut text = Vec::new(heap);
-    for k in 0..units {
+    for _ in 1..units {
         text.extend_from_slice(UNIT)?;
-        if k.wrapping_add(1) < units {
-            text.extend_from_slice(JOINED)?;
-        } else {
-            text.extend_from_slice(LAST)?;
-        }
+        text.extend_from_slice(JOINED)?;
     }
+    text.extend_from_slice(UNIT)?;
+    text.extend_from_slice(LAST)?;
     Ok(text)
 }
 

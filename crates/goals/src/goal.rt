@@ -35,7 +35,8 @@ pub struct Ends {
     pub lower: Span,
 }
 
-// A node of a goal, which names its parts by their numbers in the goal's table.
+// A node of a goal, which names its parts by their numbers in the goal's table: labels name nodes by these numbers, and the table's
+// room is made once, as boxes could not be.
 #[derive(Clone, Copy, PartialEq, Eq, Debug)]
 pub enum Node {
     True,

@@ -47,7 +47,7 @@ fn called<'a>(rest: Rest<'a>) -> Result<Called<'a>, GoalFault>
 }
 
 impl Progress<'_> {
-    // The lower end of an interval.
+    // The lower end of an interval. It and the upper one read a number each, with one limit; a common promise would be longer than both.
     fn lower(&mut self) -> Result<u16, GoalFault>
         ensures { (V : Vocabulary) → LowerSays V self.old self.new result }
     {

@@ -37,6 +37,7 @@ fn is_declared(file: FramedFile<'_>, fact: Fact) -> bool
         && id_fits(places >= 2, file.frame.ids, fact.second)
 }
 
+// Sessions test arguments so too, over wider ids; the test is this one line.
 fn id_fits(used: bool, ids: u8, id: u16) -> bool
     ensures { result ≡ id_fits used ids id }
 {

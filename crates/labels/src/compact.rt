@@ -54,7 +54,8 @@ fn moved(part: Part, to: &[usize]) -> Part
     }
 }
 
-// Copies what is marked, which are the parts of the label at the root.
+// Copies what is marked, which are the parts of the label at the root. By the place and not by an iterator: what is written at
+// a place is read again for the parts behind it.
 pub fn copy(
     source: &Table<MOST_WORK>,
     root: usize,

@@ -17,7 +17,7 @@ use goals::goal::{Ends, Node};
 use registers::register::Register;
 
 impl<'a, R: Register> Step<'a, R> {
-    // The progress of a pending part.
+    // The progress of a pending part. Idling has such a function too, but gives a truth and no label: what both walk is two lines.
     fn pending(
         &self,
         table: &mut Table<MOST_WORK>,

@@ -9,7 +9,7 @@ use labels::workspace::Workspace;
 use sessions::call::Line;
 use std::alloc::{AllocError, Global};
 
-// Room to run the steps of a file.
+// Room to run the steps of a file. Its lines are a plain `Vec`: what is known of their room is said here and where calls are added alone.
 #[derive(Drop)]
 pub(crate) struct RunRoom {
     pub label: LabelRoom,

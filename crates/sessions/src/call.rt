@@ -4,7 +4,8 @@ use crate::look::Look;
 use crate::refusal::{LookRefusal, StepRefusal};
 use crate::step::Step;
 
-// A call on a session, as a value.
+// A call on a session, as a value: the law speaks of lists of calls, so that a call is no closure. `registers` has calls, answers and
+// lines of its own; one generic `Line` for both would need a trait for what answers, longer than the two fields and the loop.
 #[derive(Clone, Copy, PartialEq, Eq, Debug)]
 pub enum Call {
     Step(Step),

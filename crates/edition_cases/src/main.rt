@@ -1,12 +1,11 @@
 // Makes the report of each example file that an argument names, and tells whether it is the stored one.
 #![tactic(auto)]
 
+use registers::fact::ALL_FACTS;
 use registers::grid::Grid;
 use reports::report::report;
 use reports::room::ReportRoom;
 use std::{env, fs};
-
-const GRID_LIMIT: usize = 262144;
 
 fn main(rt: HostRuntime) -> anyhow::Result<()> {
     for name in env::args(&rt)?.skip(1) {
@@ -26,7 +25,7 @@ fn is_as_stored(rt: &HostRuntime, name: &str) -> anyhow::Result<bool> {
     let path = format!(in rt.alloc(); "{name}.out")?;
     let stored = fs::read(rt, path.as_str())?;
     let room = ReportRoom::new(rt.alloc())?;
-    let grid = Grid::new(rt.alloc(), GRID_LIMIT)?;
+    let grid = Grid::new(rt.alloc(), ALL_FACTS)?;
     let text = report(room, grid, file.as_slice());
     Ok(text.as_slice() == stored.as_slice())
 }

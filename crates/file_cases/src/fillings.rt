@@ -414,7 +414,7 @@ fn print_case<R: Register>(
     )
 }
 
-// How many of the facts are held.
+// How many of the facts are held. The other case program asks this too; programs share no code here.
 fn count_held<R: Register>(register: &R, facts: &[Fact]) -> usize {
     facts.iter().filter(|fact| register.holds(**fact)).count()
 }

@@ -1,7 +1,7 @@
 ghost use Rattle.std.specs.Prelude.{◌≡◌, ◌<◌};
 ghost use Rattle.goals.specs.Bytes.{byte_at, word_at};
 
-// The byte at a place, or 0 past the end.
+// The byte at a place, or 0 past the end: the frame is defined so, and whether the file ends early is asked of the whole frame.
 pub(crate) fn byte_at(bytes: &[u8], at: usize) -> u8
     ensures { result ≡ byte_at bytes.now at }
 {

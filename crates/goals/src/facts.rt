@@ -26,7 +26,7 @@ impl<'a> FactList for FramedFile<'a> {
         usize::from(self.frame.facts)
     }
 
-    // Tested by hand: a file's facts are defined by the place of their bytes, which a chain of slices would have to be led back to.
+    // Tested by hand: as `file.get(..)?.as_chunks::<3>()` it is longer, and the definition goes by the place of the bytes.
     fn get(&self, index: usize) -> Option<Fact> {
         if index < usize::from(self.frame.facts) {
             Some(fact_at(self.bytes, self.frame.facts_at + 3 * index))

@@ -15,6 +15,7 @@ pub enum FrameFault {
 }
 
 impl FrameFault {
+    // By a match: `as` takes no enum whose variants hold something.
     pub fn number(self) -> u8
         ensures { result ≡ frame_number self }
     {
@@ -33,6 +34,7 @@ pub enum FileFault {
 }
 
 impl FileFault {
+    // By a match: `as` takes no enum whose variants hold something.
     pub fn number(self) -> u8
         ensures { result ≡ file_number self }
     {

@@ -15,6 +15,7 @@ pub enum FillFault {
 }
 
 impl FillFault {
+    // By a match: `as` takes no enum whose variants hold something.
     pub fn number(self) -> u8
         ensures { result ≡ fill_number self }
     {

@@ -20,7 +20,7 @@ pub enum Term {
     Bound(Variable),
 }
 
-// A predicate of two terms; an unused term is the id 0.
+// A predicate of two terms; an unused term is the id 0, as in the file.
 #[derive(Clone, Copy, PartialEq, Eq, Debug)]
 pub struct Atom {
     pub predicate: u8,
@@ -85,7 +85,10 @@ impl Goal {
     }
 }
 
-// Room for the nodes of a goal, which has at most 128.
+// A goal has at most so many nodes.
+pub(crate) const MOST_NODES: usize = 128;
+
+// Room for the nodes of a goal.
 #[derive(Drop)]
 pub struct GoalRoom {
     pub(crate) nodes: Vec<Node>,
@@ -95,7 +98,7 @@ pub struct GoalRoom {
 
 impl GoalRoom {
     pub fn new(heap: Global) -> Result<GoalRoom, AllocError> {
-        let nodes = Vec::with_capacity(heap, 128)?;
+        let nodes = Vec::with_capacity(heap, MOST_NODES)?;
         Ok(GoalRoom { nodes })
     }
 }

@@ -7,6 +7,7 @@ use crate::catalogue_fault::CatalogueFault;
 use crate::goal_fault::GoalFault;
 
 impl GoalFault {
+    // By a match, as each fault's number: the variants hold places.
     pub fn number(self) -> u8
         ensures { result ≡ fault_number self }
     {
@@ -41,6 +42,7 @@ pub enum JobFault {
 }
 
 impl JobFault {
+    // By a match: `as` takes no enum whose variants hold something.
     pub fn number(self) -> u8
         ensures { result ≡ job_number self }
     {

@@ -1,7 +1,7 @@
 ghost use Rattle.std.specs.Prelude.{◌≡◌};
 ghost use Rattle.goals.specs.Meanings.{capped};
 
-// The number that digits write, or 65,535 where it is greater.
+// The number that digits write, or 65,535 where it is greater, which is over every limit that a number has.
 pub fn number_of(digits: &[u8]) -> u16
     ensures { result ≡ capped 0 digits.now }
 {

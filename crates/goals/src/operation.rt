@@ -21,10 +21,10 @@ pub struct Entry {
 // No operation has more needs, takes or puts.
 pub const MOST_ENTRIES: usize = 6;
 
-// Up to six entries; the first `count` items are in use.
+// Up to six entries; the first `count` items are in use. An array beside its count: entries are `Copy` and ask for no memory.
 #[derive(Clone, Copy)]
 pub struct Entries {
-    pub(crate) items: [Entry; 6],
+    pub(crate) items: [Entry; MOST_ENTRIES],
     pub(crate) count: usize,
     ghost few: { count ≤ 6 },
     ghost whole: { length items ≡ 6 },

@@ -29,7 +29,7 @@ pub struct Sense {
 }
 
 // The number of the first predicate with a name.
-fn number_of(predicates: &[Predicate], name: &[u8]) -> Option<usize>
+pub(crate) fn number_of(predicates: &[Predicate], name: &[u8]) -> Option<usize>
     ensures { result ≡ position (λ p. bytes_eq (name_of p) name.now) predicates.now }
 {
     predicates

@@ -12,7 +12,7 @@ use crate::catalogue::{Catalogue, CatalogueRoom, MOST_OPERATIONS, MOST_PREDICATE
 use crate::catalogue_fault::CatalogueFault;
 use crate::frame::{Frame, FramedFile, PREDICATES_AT, entries};
 use crate::operation::Operation;
-use crate::predicate::Predicate;
+use crate::predicate::{Predicate, number_of};
 use crate::read_operation::OperationReader;
 use crate::read_predicate::read_predicate;
 
@@ -20,9 +20,7 @@ use crate::read_predicate::read_predicate;
 fn is_taken(predicates: &[Predicate], name: &[u8]) -> bool
     ensures { result ≡ list_any (λ p. bytes_eq (name_of p) name.now) predicates.now }
 {
-    predicates
-        .iter()
-        .any(|predicate| predicate.letters() == name)
+    number_of(predicates, name).is_some()
 }
 
 // Reads the predicates; a fault if one of them breaks a rule or has a name that one before it has.

@@ -37,7 +37,8 @@ impl Reader<'_> {
         }
     }
 
-    // Items joined by `&`, from the left. One loop for both would take its part as a closure inside the recursion, whose own requires, ensures and measure are longer than this loop.
+    // Items joined by `&`, from the left. One loop for both was tried: it takes its part as a closure inside the recursion, and the check
+    // asked for a measure of it and left the whole cycle without a proof.
     #[cycle(bracket_clause_formula_item)]
     fn clause(&self, s: &mut Progress<'_>) -> Result<usize, GoalFault>
         ensures { ClauseSays (vocabulary self.now.words) self.now.scope s.old s.new result }

@@ -2,13 +2,10 @@ ghost use Rattle.std.specs.Prelude.{◌≡◌, ◌+◌, ◌<◌, ◌≤◌, vec_
 ghost use Rattle.goals.specs.Seen.{mark_of};
 ghost use Rattle.goals.specs.Promises.{Passed, TakeSays, Added, Closed, closing_size, joint_node, SignSays};
 
-use crate::goal::Node;
+use crate::goal::{MOST_NODES, Node};
 use crate::goal_fault::GoalFault;
 use crate::progress::{Joint, Prefix, Progress};
 use crate::token::{Sign, Token};
-
-// A goal has at most so many nodes.
-const MOST_NODES: usize = 128;
 
 impl<'a> Progress<'a> {
     // Passes a token that counts for so many nodes.

@@ -47,7 +47,7 @@ pub struct Token<'a> {
     pub rest: Rest<'a>,
 }
 
-// How many of the first bytes pass a test.
+// How many of the first bytes pass a test. A loop: tried as `take_while(..).count()`, whose value was not proved.
 fn run_of<F: Fn(u8) -> bool>(bytes: &[u8], passes: F) -> usize
     requires { F.IsAlwaysCallable passes }
     ensures within { result ≤ length bytes.now }

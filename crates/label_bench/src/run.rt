@@ -7,6 +7,7 @@ use labels::label::{Label, LabelRoom};
 use labels::refusal::LabelRefusal;
 use labels::state::LabelState;
 use labels::workspace::Workspace;
+use registers::fact::ALL_FACTS;
 use registers::grid::Grid;
 use registers::register::Register;
 use std::alloc::Global;
@@ -24,11 +25,11 @@ impl Run {
     // From the opening label of an edition.
     pub fn new(heap: Global, edition: Edition) -> anyhow::Result<Run> {
         let file = edition.file(heap)?;
-        let mut register = Grid::new(heap, 262144)?;
+        let mut register = Grid::new(heap, ALL_FACTS)?;
         let room = JobRoom::new(heap)?;
-        let Ok(job) = fill(&mut register, file.as_slice(), room) else {
-            return Err(anyhow!("the edition is refused"));
-        };
+        let job = fill(&mut register, file.as_slice(), room).map_err(|_| anyhow!(
+            "the edition is refused"
+        ))?;
         let label = Label::opening(LabelRoom::new(heap)?, &job);
         let workspace = Workspace::new(heap)?;
         Ok(Run {
@@ -52,7 +53,7 @@ impl Run {
         self.label.size()
     }
 
-    // The words are the benchmark's own; the library prints none.
+    // A match: the library has no `Display` for it, which could promise nothing of what it prints.
     pub fn state(&self) -> &'static str {
         match self.label.state() {
             LabelState::True => "true",

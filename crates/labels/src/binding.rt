@@ -3,7 +3,8 @@ ghost use Rattle.labels.specs.Facts.{bind, value as value_in};
 
 use goals::goal::{Term, Variable};
 
-// The ids of the outer and of the inner variable, 0 where none is bound.
+// The ids of the outer and of the inner variable, 0 where none is bound: parts are compared with their bindings, so that what is
+// not bound has one value.
 #[derive(Clone, Copy, PartialEq, Eq, Debug)]
 pub struct Binding {
     pub outer: u16,

@@ -18,6 +18,7 @@ use registers::register::Register;
 
 impl<'a, R: Register> Step<'a, R> {
     // The progress of a pending part. Idling has such a function too, but gives a truth and no label: what both walk is two lines.
+    // A part's number, binding and ends are what `Part::Pending` holds; a struct of its own for them would be taken apart here again.
     fn pending(
         &self,
         table: &mut Table<MOST_WORK>,

@@ -4,8 +4,7 @@ ghost use Rattle.labels.specs.Chains.{end_number, bucket};
 use crate::part::Part;
 use goals::time::Span;
 
-// A hash of our own, not a `HashMap`: its insert asks for memory, and a step may ask for none.
-// How many buckets a table has.
+// How many buckets a table has. The hash is our own and not a `HashMap`'s, whose insert asks for memory, which a step may not.
 pub const BUCKETS: usize = 1024;
 
 fn end_number(upper: Option<Span>) -> usize

@@ -68,7 +68,7 @@ impl<'a, R: Register> Idling<'a, R> {
     }
 
     // Is there an id in range for which the body's answer is the wanted one?
-    // A `for`, not an `any`: a closure that calls `node` back needs clauses and a measure of its own, longer than the loop.
+    // A `for`; `any` was tried: for a closure that calls `node` back the check asked for four measures.
     #[cycle(any_node_until)]
     fn any(&self, range: Range, binding: Binding, wanted: bool) -> bool
         requires { range.body < range.node }
@@ -85,7 +85,7 @@ impl<'a, R: Register> Idling<'a, R> {
         false
     }
 
-    // Does it keep a pending part?
+    // Does it keep a pending part? Like `Step::pending`, which gives a label.
     fn pending(&self, number: usize, binding: Binding, ends: Ends) -> bool
         ensures { result ≡ keeps self.now.job.now (R.Register.meaning self.now.register.now) (with_ends ends (node_of self.now.job.now number)) binding }
     {

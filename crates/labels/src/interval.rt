@@ -5,7 +5,7 @@ ghost use Rattle.labels.specs.Progress.{less, passed, later};
 use goals::goal::{Ends, Node};
 use goals::time::Span;
 
-// A node's own ends, 0 unless it is an until.
+// A node's own ends, 0 unless it is an until, as the definition of a pending part has them.
 pub fn own_ends(node: &Node) -> Ends
     ensures { result ≡ node_ends node.now }
 {

@@ -86,44 +86,6 @@ impl Range {
     }
 }
 
-// A goal node, pending with its own ends.
-pub fn waiting(
-    table: &mut Table<MOST_WORK>,
-    job: &Job,
-    number: usize,
-    binding: Binding,
-) -> Result<usize, Full>
-    ensures { Adds table.old table.new (waiting_of (node_of job.now number) binding) result }
-{
-    let ends = own_ends(node_at(job, number));
-    table.add(Part::Pending {
-        node: number,
-        binding,
-        ends,
-    })
-}
-
-// What is left of an until after the span.
-fn rest(
-    table: &mut Table<MOST_WORK>,
-    span: Span,
-    node: usize,
-    binding: Binding,
-    ends: Ends,
-) -> Result<usize, Full>
-    ensures { Adds table.old table.new (rest_of span.hours node binding ends) result }
-{
-    if is_passed(span, ends.upper) {
-        return table.add(Part::False);
-    }
-    let ends = ends_after(span, ends);
-    table.add(Part::Pending {
-        node,
-        binding,
-        ends,
-    })
-}
-
 // What a step is worked out by: the job, the register that has the facts before it, and its span.
 // The table that it fills is passed beside it: as a field, each contract would have to say that the other three stay.
 #[derive(Drop)]
@@ -134,6 +96,44 @@ pub struct Step<'a, R> {
 }
 
 impl<'a, R: Register> Step<'a, R> {
+    // A goal node, pending with its own ends.
+    fn waiting(
+        &self,
+        table: &mut Table<MOST_WORK>,
+        number: usize,
+        binding: Binding,
+    ) -> Result<usize, Full>
+        ensures { Adds table.old table.new (waiting_of (node_of self.now.job.now number) binding) result }
+    {
+        let ends = own_ends(node_at(self.job, number));
+        table.add(Part::Pending {
+            node: number,
+            binding,
+            ends,
+        })
+    }
+
+    // What is left of an until after the span.
+    fn rest(
+        &self,
+        table: &mut Table<MOST_WORK>,
+        node: usize,
+        binding: Binding,
+        ends: Ends,
+    ) -> Result<usize, Full>
+        ensures { Adds table.old table.new (rest_of self.now.span.hours node binding ends) result }
+    {
+        if is_passed(self.span, ends.upper) {
+            return table.add(Part::False);
+        }
+        let ends = ends_after(self.span, ends);
+        table.add(Part::Pending {
+            node,
+            binding,
+            ends,
+        })
+    }
+
     // The progress of a goal node under a binding, at the register's facts, over the span.
     #[cycle(joined_negated_node_quantified_until)]
     pub fn node(
@@ -157,7 +157,7 @@ impl<'a, R: Register> Step<'a, R> {
                 let pair = Pair::new(Connective::Or, number, left, right);
                 self.joined(table, pair, binding)
             }
-            Node::Next(x) => waiting(table, self.job, x, binding),
+            Node::Next(x) => self.waiting(table, x, binding),
             Node::Until(ends, hold, reach) => {
                 let wait = Wait::new(number, ends, hold, reach);
                 self.until(table, wait, binding)
@@ -217,7 +217,7 @@ impl<'a, R: Register> Step<'a, R> {
         ensures { Walks self.now.job.now (R.Register.meaning self.now.register.now) self.now.span table.old table.new (wait_of self.now.job.now wait) binding result }
     {
         let p = self.node(table, wait.hold, binding)?;
-        let later = rest(table, self.span, wait.node, binding, wait.ends)?;
+        let later = self.rest(table, wait.node, binding, wait.ends)?;
         let q = table.join(Connective::And, p, later)?;
         if wait.ends.lower.hours > 0 {
             return Ok(q);

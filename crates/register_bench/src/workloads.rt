@@ -1,4 +1,4 @@
-use registers::fact::Fact;
+use registers::fact::{ALL_FACTS, Fact};
 use registers::grid::Grid;
 use registers::record_list::RecordList;
 use registers::register::Register;
@@ -33,11 +33,12 @@ impl Workload {
     }
 }
 
-// Runs a workload and gives a number that depends on all of its work. A match, and no table of functions: a constant would hand out function pointers.
+// Runs a workload and gives a number that depends on all of its work. A match: an array of functions
+// would be handed out as pointers, which the gate refuses.
 pub fn run(heap: Global, workload: Workload) -> Result<u64, AllocError> {
     match workload {
         Workload::FillLimitedGrid => fill_grid(heap, 4096),
-        Workload::FillGrid => fill_grid(heap, 262144),
+        Workload::FillGrid => fill_grid(heap, ALL_FACTS),
         Workload::FillList => fill_list(heap),
         Workload::Ask => ask(heap),
         Workload::Size => tell_size(heap),
@@ -81,7 +82,7 @@ fn put_rows<R: Register>(register: &mut R, predicate: u8, firsts: u16) -> u64 {
 }
 
 fn ask(heap: Global) -> Result<u64, AllocError> {
-    let mut grid = Grid::new(heap, 262144)?;
+    let mut grid = Grid::new(heap, ALL_FACTS)?;
     let accepted = put_rows(&mut grid, 5, 32);
     let mut random: u64 = 1;
     let mut yes: u64 = 0;
@@ -106,7 +107,7 @@ fn fact_of(random: u64) -> Fact {
 }
 
 fn tell_size(heap: Global) -> Result<u64, AllocError> {
-    let mut grid = Grid::new(heap, 262144)?;
+    let mut grid = Grid::new(heap, ALL_FACTS)?;
     let mut sum: u64 = 0;
     for predicate in 0..16 {
         sum = sum.wrapping_add(put_rows(&mut grid, predicate, 128));

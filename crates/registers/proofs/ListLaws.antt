@@ -1,8 +1,8 @@
 -- Laws of putting whole lists: membership, size and limit with every fact of a list in, one more fact at a time.
-use Rattle.std.proofs.Common.{◌≡◌, ℕ, zero, suc, ◌+◌, ◌<◌, ◌≤◌, Bool, true, false, cond, not, ◌&&◌, ◌||◌, ltb, leb, List, [], ◌∷◌, ◌++◌, length, take, drop, is_ok, Option, Some, None, MatchOption, Ok, Err, Result, sym, refl, ap, ◌∙◌, ⊎_elim, arith}
-use Rattle.std.specs.List.{slice_get, list_all, list_any}
+use Rattle.std.proofs.Common.{◌≡◌, ℕ, zero, suc, ◌+◌, ◌<◌, ◌≤◌, Bool, true, false, cond, not, ◌&&◌, ◌||◌, ltb, leb, List, [], ◌∷◌, ◌++◌, length, take, drop, is_ok, Option, Some, None, MatchOption, Ok, Err, Result, sym, refl, ap, ◌∙◌, ⊎_elim, arith, is_some}
+use Rattle.std.specs.List.{slice_get, list_all, list_any, position, position_or_len}
 use Rattle.std.proofs.lemmas.List.{append-nil, take-append-drop}
-use Rattle.std.proofs.lemmas.Bool.{cases_Bool, cond-true, cond-false, not_from_true, not_from_false, and_parts, lt-ltb, le-ltb, leb-true, leb-false}
+use Rattle.std.proofs.lemmas.Bool.{cases_Bool, cond-true, cond-false, not_from_true, not_from_false, and_parts, lt-ltb, le-ltb, leb-true, leb-false, ltb-true, ltb-false}
 use Rattle.registers.specs.declared.fact.Fact.{Fact}
 use Rattle.registers.specs.declared.refusal.Refusal.{Refusal}
 use Rattle.registers.specs.declared.refusal.Refusal.TheVariants.{OutOfBounds, Full}
@@ -206,3 +206,19 @@ listed-any f (x ∷ fs) = ap (λ t. is_record f x || t) (listed-any f fs)
 -- where nothing is left behind an index, all are before it
 pub taken_all : {X : Type 0} (xs : List X) (k : ℕ) → drop k xs ≡ [] → take k xs ≡ xs
 taken_all xs k e = sym (append-nil (take k xs)) ∙ (ap (λ t. take k xs ++ t) (sym e) ∙ take-append-drop k xs)
+
+first_step : (b r : Bool) (a n : ℕ) → ltb a n ≡ r → ltb (cond (not b) (1 + a) 0) (suc n) ≡ (b || r)
+first_step true r a n e = lt-ltb 0 (suc n) (omega arith)
+first_step false true a n e = lt-ltb (1 + a) (suc n) (omega (arith, ltb-true a n e))
+first_step false false a n e = le-ltb (1 + a) (suc n) (omega (arith, ltb-false a n e))
+
+-- an element that passes has a place exactly if there is one
+pub any-position : {X : Type 0} (p : X → Bool) (xs : List X) → is_some (position p xs) ≡ list_any p xs
+any-position {X} p xs = shown _ _ ∙ first_in xs where
+  shown : (b : Bool) (k : ℕ) → is_some (cond b (Some k) None) ≡ b
+  shown true k = refl
+  shown false k = refl
+
+  first_in : (ys : List X) → ltb (position_or_len p ys) (length ys) ≡ list_any p ys
+  first_in [] = le-ltb 0 0 (omega arith)
+  first_in (y ∷ ys) = first_step (p y) _ (position_or_len p ys) (length ys) (first_in ys)

@@ -1,9 +1,9 @@
 -- What the list register's steps come to: a record found, one more, one fewer.
-use Rattle.std.proofs.Common.{◌≡◌, ℕ, suc, Bool, cond, not, ltb, is_some, Some, None, ◌+◌, ◌-◌, ◌<◌, ◌≤◌, min, true, false, ◌||◌, List, [], ◌∷◌, ◌++◌, length, get_or, take, set, sym, refl, ap, ◌∙◌, ⊎_elim, arith, length-set, length-take-le, get_or-take}
+use Rattle.std.proofs.Common.{◌≡◌, ℕ, is_some, Some, ◌+◌, ◌-◌, ◌<◌, ◌≤◌, min, true, false, ◌||◌, List, [], ◌∷◌, ◌++◌, length, get_or, take, set, sym, refl, ap, ◌∙◌, ⊎_elim, arith, length-set, length-take-le, get_or-take}
 use lib.Seq.{take-set-lt}
 use Rattle.std.proofs.lemmas.List.{take_more, take_more_set, take-set}
-use Rattle.std.proofs.lemmas.Bool.{cases_eq, lt-ltb, le-ltb, ltb-true, ltb-false}
-use Rattle.std.specs.List.{position, position_or_len}
+use Rattle.std.proofs.lemmas.Bool.{cases_eq}
+use Rattle.std.specs.List.{position}
 use Rattle.std.proofs.lemmas.List.Quantifiers.{position-Some}
 use Rattle.registers.specs.Facts.{count_of}
 use Rattle.registers.specs.Meaning.{has, size_of, limit_of, allowed, including, excluding, empty_of}
@@ -12,24 +12,11 @@ use Rattle.registers.specs.declared.fact.Fact.{Fact}
 use Rattle.registers.proofs.Counts.{same_parts}
 use Rattle.registers.proofs.Members.{listed-bounded, same_of, listed_as, listed-push, listed_pushed, listed-set, count-push, Fewer, fewer}
 use Rattle.registers.proofs.Laws.{meaning_eq}
-
-first_step : (b r : Bool) (a n : ℕ) → ltb a n ≡ r → ltb (cond (not b) (1 + a) 0) (suc n) ≡ (b || r)
-first_step true r a n e = lt-ltb 0 (suc n) (omega arith)
-first_step false true a n e = lt-ltb (1 + a) (suc n) (omega (arith, ltb-true a n e))
-first_step false false a n e = le-ltb (1 + a) (suc n) (omega (arith, ltb-false a n e))
-
-first_in : (x : Fact) (ys : List Fact) → ltb (position_or_len (is_record x) ys) (length ys) ≡ listed_as ys x
-unfolding listed
-first_in x [] = le-ltb 0 0 (omega arith)
-first_in x (y ∷ ys) = first_step (is_record x y) _ (position_or_len (is_record x) ys) (length ys) (first_in x ys)
-
-is_some-cond : (b : Bool) (k : ℕ) → is_some (cond b (Some k) None) ≡ b
-is_some-cond true k = refl
-is_some-cond false k = refl
+use Rattle.registers.proofs.ListLaws.{any-position, listed-any}
 
 -- a record is found exactly where the records name the fact
 pub found : (x : Fact) (xs : List Fact) → is_some (position (is_record x) xs) ≡ listed_as xs x
-found x xs = is_some-cond _ _ ∙ first_in x xs
+found x xs = any-position (is_record x) xs ∙ listed-any x xs
 
 pub fact_eq : (x y : Fact) → same_of x y.predicate y.first y.second ≡ true → x ≡ y
 fact_eq x y s =

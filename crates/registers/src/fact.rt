@@ -1,7 +1,7 @@
 ghost use Rattle.std.specs.Prelude.{◌≡◌};
 ghost use Rattle.registers.specs.Facts.{in_bounds};
 
-// A predicate of two ids; a place that the predicate does not use holds 0.
+// A predicate of two ids; a place that the predicate does not use holds 0, as in the file.
 #[derive(Clone, Copy, PartialEq, Eq, Debug)]
 pub struct Fact {
     pub predicate: u8,

@@ -43,6 +43,7 @@ impl Grid {
         bit(self.rows[at], fact.second)
     }
 
+    // A loop: of the chain `map(..).sum()` neither that the sum fits nor what it is was found.
     fn count(&self) -> usize
         ensures { result ≡ count_of (grid_facts self.now.rows.items) }
     {
@@ -67,7 +68,8 @@ fn row_of(fact: Fact) -> usize
     usize::from(fact.predicate) * 128 + usize::from(fact.first)
 }
 
-// The three below ask that a bit is below 128; a type of such numbers would be longer than their three lines.
+// The bit of a row. It, `with_bit` and `without_bit` ask that the bit is below 128: a struct with that as its ghost field, and a
+// function to make one, would be ten lines for three of one line each.
 fn bit(row: u128, b: u16) -> bool
     requires { b < 128 }
     ensures { result ≡ bit_of row b }

@@ -28,8 +28,8 @@ fn all_in_bounds<L: FactList>(list: &L) -> bool
     facts(list).all(|fact| fact.in_bounds())
 }
 
-// That all facts are in bounds is asked of three functions below: a type for such a list would say no more, and its one maker is `put_all`.
-// Would the limit allow all facts of the list, each counted once? A limit of all facts allows any.
+// Would the limit allow all facts of the list, each counted once? A limit of all facts allows any. That all are in bounds is asked
+// here and of two functions below: a type for such a list would say no more than the clause, and only `put_all` would make one.
 fn has_room<R: Register, L: FactList>(register: &R, list: &L) -> bool
     requires { all_allowed (L.FactList.listed list.now) ≡ true }
     ensures { result ≡ nat_le (size_of (including_all (R.Register.meaning register.now) (L.FactList.listed list.now))) (limit_of (R.Register.meaning register.now)) }
@@ -42,7 +42,8 @@ fn has_room<R: Register, L: FactList>(register: &R, list: &L) -> bool
     list.count() <= free || count_new(register, list) <= free
 }
 
-// How many facts of the list the register lacks, each counted once.
+// How many facts of the list the register lacks, each counted once. A loop: whether a fact counts depends on those before it, and
+// the loop's invariant says to what the number has come, which a `filter(..).count()` would have to be led back to.
 fn count_new<R: Register, L: FactList>(register: &R, list: &L) -> usize
     requires { all_allowed (L.FactList.listed list.now) ≡ true }
     ensures { size_of (R.Register.meaning register.now) + result ≡ size_of (including_all (R.Register.meaning register.now) (L.FactList.listed list.now)) }

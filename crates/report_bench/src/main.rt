@@ -3,6 +3,7 @@
 // printed too. The rooms are made before the clock starts.
 #![tactic(auto)]
 
+use registers::fact::ALL_FACTS;
 use registers::grid::Grid;
 use registers::register::Register;
 use reports::report::report;
@@ -17,14 +18,12 @@ const RUNS: u8 = 11;
 // Longer than any edition file.
 const MOST_BYTES: u64 = 65536;
 
-const GRID_LIMIT: usize = 262144;
-
 fn main(rt: HostRuntime) -> anyhow::Result<()> {
     let mut file = Vec::new(rt.alloc());
     let mut input = rt.stdin().take(MOST_BYTES);
     let _ = input.read_to_end(&mut file)?;
     let room = ReportRoom::new(rt.alloc())?;
-    let grid = Grid::new(rt.alloc(), GRID_LIMIT)?;
+    let grid = Grid::new(rt.alloc(), ALL_FACTS)?;
     let text = report(room, grid, file.as_slice());
     let length = text.len();
     let sum = sum_of(text.as_slice());
@@ -56,7 +55,7 @@ fn quickest(rt: &HostRuntime, file: &[u8]) -> anyhow::Result<u128> {
     let mut best = u128::MAX;
     for _ in 0..RUNS {
         let room = ReportRoom::new(rt.alloc())?;
-        let grid = Grid::new(rt.alloc(), GRID_LIMIT)?;
+        let grid = Grid::new(rt.alloc(), ALL_FACTS)?;
         let start = Instant::now(rt)?;
         let text = report(room, grid, file);
         best = best.min(start.elapsed(rt)?.as_nanos());

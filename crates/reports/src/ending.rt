@@ -15,6 +15,7 @@ pub enum ReportRefusal {
 impl ReportRefusal {
     ghost use Rattle.reports.specs.Refusals.{refusal_number};
 
+    // By a match: the variants hold what was refused.
     pub fn number(self) -> u8
         ensures { result ≡ refusal_number self }
     {

@@ -18,6 +18,7 @@ fn truth_word(truth: LabelState) -> &'static [u8]
     }
 }
 
+// That a line has room is asked of each writer: how much is written is known where all of it is, in `report_steps`.
 impl Text {
     // Writes a number and a space.
     fn push_field(&mut self, number: u64)

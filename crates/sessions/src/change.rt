@@ -10,8 +10,8 @@ use registers::fact_list::{FactList, facts};
 use registers::put_all::{is_before, put_all};
 use registers::register::Register;
 
-// How many facts of the list the register holds, each counted once. This, `count_new` below and that of `registers` differ in
-// their test: one function would take it as a closure, which a public one can't, since calling a closure needs a `requires`.
+// How many facts of the list the register holds, each counted once. This, `count_new` below and that of `registers` differ in their
+// test and in what they are counted against: one function over the test, with the two laws from it to these clauses, is longer.
 fn count_held<R: Register, L: FactList>(register: &R, takes: &L) -> usize
     ensures { size_of (excluding_all (R.Register.meaning register.now) (L.FactList.listed takes.now)) + result ≡ size_of (R.Register.meaning register.now) }
 {

@@ -6,7 +6,7 @@ use crate::step::Arguments;
 use goals::operation::{Entries, Entry};
 use registers::register::Register;
 
-// An argument that is used is below the number of ids, any other is 0.
+// An argument that is used is below the number of ids, any other is 0. `goals` tests a file's facts so, over ids of one byte.
 fn argument_fits(ids: u16, used: bool, argument: u16) -> bool
     ensures { result ≡ argument_fits ids used argument }
 {

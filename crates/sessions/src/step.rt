@@ -1,7 +1,7 @@
 ghost use Rattle.std.specs.Prelude.{◌≡◌};
 ghost use Rattle.sessions.specs.Steps.{argument};
 
-// The three arguments of a step, 0 where unused.
+// The three arguments of a step, 0 where unused: the file has three, and another number there is refused.
 #[derive(Clone, Copy, PartialEq, Eq, Debug)]
 pub struct Arguments {
     pub first: u16,

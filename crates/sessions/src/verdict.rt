@@ -1,4 +1,4 @@
-// What closing tells of the model of the steps taken.
+// What closing tells of the model of the steps taken: three words of a report, of which none is an error of the closing.
 #[derive(Clone, Copy, PartialEq, Eq, Debug)]
 pub enum Judgement {
     Kept,

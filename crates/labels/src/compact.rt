@@ -26,7 +26,8 @@ fn mark_own(part: Part, marks: &mut [bool])
     }
 }
 
-// Marks the parts of the label at the root, from the root down.
+// Marks the parts of the label at the root, from the root down. That there is a mark, or a place, for each part is asked of each
+// function that goes over both: they have different owners.
 pub fn mark(source: &Table<MOST_WORK>, root: usize, marks: &mut [bool])
     requires within { Stands source.now root }
     requires room { length (parts_in source.now) ≤ length marks.old }

@@ -80,7 +80,8 @@ impl<const LIMIT: usize> Table<LIMIT> {
         None
     }
 
-    // Finds the part or adds it, and tells where it stands.
+    // Finds the part or adds it, and tells where it stands. That a part's own parts stand before a place is asked here and wherever a
+    // part is read against a list of places: no type can say it of a part alone.
     pub fn add(&mut self, part: Part) -> Result<usize, Full>
         requires { before (length self.old.items.items) part ≡ true }
         ensures { Added LIMIT self.old.items.items self.new.items.items (composed (label_at self.old.items.items) part) result }

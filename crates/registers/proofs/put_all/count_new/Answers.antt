@@ -48,10 +48,3 @@ loop-k-preserved g c =
           ∙ ap (λ n. size_of (including_all m (take n fs))) (sym further),
       omega (arith, c.loop-k.invariant.2, further),
     )
-
-pub returns : goal.returns
-returns g c =
-    let m = g.R.Register.meaning c.args.register.now in
-    let fs = g.L.FactList.listed c.args.list.now in
-    c.loop-k.invariant.1
-    ∙ ap (λ t. size_of (including_all m t)) (taken_all fs c.loop-k.k-iterator.count (c.loop-k.invariant.0 ∙ c.in-None.ensures.steps.0.0))

@@ -4,11 +4,6 @@ use Rattle.registers.proofs.FactSteps.{facts-left}
 use Rattle.registers.proofs.ListLaws.{including-none, put-next}
 use Rattle.registers.proofs.put_all.put_each.Goals as goal
 
-pub loop-fact-init : goal.loop-fact-init
-loop-fact-init g c =
-    let all = facts-left g.L.FactList.listed _ _ _ c.into_iter-fact-iterator.ensures.into_iter_gives c.facts-fact-items.ensures.list c.facts-fact-items.ensures.start in
-    (ap (including_all (g.R.Register.meaning c.args.register.now)) all, ap all_allowed all ∙ c.requires.bounds)
-
 pub loop-fact-preserved : goal.loop-fact-preserved
 loop-fact-preserved g c =
     let m = g.R.Register.meaning c.args.register.now in

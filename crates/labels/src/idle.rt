@@ -74,11 +74,10 @@ impl<'a, R: Register> Idling<'a, R> {
         requires { range.body < range.node }
         ensures { result ≡ keeps_any self.now.job.now (R.Register.meaning self.now.register.now) wanted range binding }
     {
+        let register = self.register;
         for id in 0..self.job.ids() {
             let bound = binding.with(range.variable, id);
-            if is_fact(self.register, bound, range.bound)
-                && self.node(range.body, bound) == wanted
-            {
+            if is_fact(register, bound, range.bound) && self.node(range.body, bound) == wanted {
                 return true;
             }
         }

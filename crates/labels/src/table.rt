@@ -13,12 +13,14 @@ use std::alloc::{AllocError, Global};
 pub struct Full;
 
 // At most LIMIT distinct parts, each behind its own; parts are found by chains, one for each bucket of a hash.
-// A Vec of parts and one of links, not one of pairs: the parts are then a list that every definition reads as it is.
+// A Vec of parts and one of links, not one of pairs: the parts are then a list that every definition reads as it is. A link is of
+// two bytes, since all heads are emptied at each step.
 #[derive(Drop)]
 pub struct Table<const LIMIT: usize> {
     items: Vec<Part>,
-    heads: Vec<Option<usize>>,
-    next: Vec<Option<usize>>,
+    heads: Vec<Option<u16>>,
+    next: Vec<Option<u16>>,
+    ghost small: { LIMIT ≤ 4096 },
     ghost room: { LIMIT ≤ vec_capacity items },
     ghost few: { vec_len items ≤ LIMIT },
     ghost order: { InOrder items.items },
@@ -72,10 +74,11 @@ impl<const LIMIT: usize> Table<LIMIT> {
     {
         let mut link = self.heads[hash(part)];
         while let Some(at) = link {
-            if self.items[at] == part {
-                return Some(at);
+            let place = usize::from(at);
+            if self.items[place] == part {
+                return Some(place);
             }
-            link = self.next[at];
+            link = self.next[place];
         }
         None
     }
@@ -97,7 +100,7 @@ impl<const LIMIT: usize> Table<LIMIT> {
         let last = self.heads[bucket];
         self.items.push_reserved(part);
         self.next.push_reserved(last);
-        self.heads[bucket] = Some(n);
+        self.heads[bucket] = Some(n as u16);
         Ok(n)
     }
 

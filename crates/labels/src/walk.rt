@@ -237,10 +237,11 @@ impl<'a, R: Register> Step<'a, R> {
         requires { range.body < range.node }
         ensures { WalksRange self.now.job.now (R.Register.meaning self.now.register.now) self.now.span table.old table.new range binding result }
     {
+        let register = self.register;
         let mut so_far = table.start(range.by)?;
         for id in 0..self.job.ids() {
             let bound = binding.with(range.variable, id);
-            if is_fact(self.register, bound, range.bound) {
+            if is_fact(register, bound, range.bound) {
                 let p = self.node(table, range.body, bound)?;
                 so_far = table.join(range.by, so_far, p)?;
             }

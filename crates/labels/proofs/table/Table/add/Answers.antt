@@ -40,6 +40,7 @@ invariant_of-self g c =
     (vec_items c.push_reserved.new.self) (vec_items c.push_reserved-2.new.self) c.hash-bucket.result c.index-last.result.now
     c.push_reserved.ensures.items c.push_reserved-2.ensures.items c.hash-bucket.ensures.value last in
     record {
+      small = c.args.self.now.small;
       room = omega arith;
       few = omega arith;
       order = subst InOrder (sym c.push_reserved.ensures.items) (pushed_order t c.args.self.now.order c.args.self.now.twins c.args.part c.requires none);

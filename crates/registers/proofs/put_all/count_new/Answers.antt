@@ -2,7 +2,7 @@ use Rattle.std.proofs.Common.{take, drop, sym, ap, ◌∙◌, arith}
 use Rattle.registers.specs.Meaning.{size_of, including_all}
 use Rattle.registers.proofs.Members.{listed_as}
 use Rattle.registers.proofs.FactSteps.{facts-left}
-use Rattle.registers.proofs.ListLaws.{including-none, new-more, held_more, listed-before-more, index-of_first, taken_all}
+use Rattle.registers.proofs.ListLaws.{including-none, new-more, held_more, listed-before-more, index-of_first}
 use Rattle.registers.proofs.put_all.count_new.Goals as goal
 use Rattle.registers.proofs.put_all.count_new.Goals.{else-not-holds-via-then-not-holds+else-not-is_before, else-not-holds-via-else-not-holds}
 

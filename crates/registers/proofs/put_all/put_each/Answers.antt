@@ -1,6 +1,5 @@
 use Rattle.std.proofs.Common.{drop, sym, ap, ◌∙◌}
 use Rattle.registers.specs.Meaning.{including_all, all_allowed}
-use Rattle.registers.proofs.FactSteps.{facts-left}
 use Rattle.registers.proofs.ListLaws.{including-none, put-next}
 use Rattle.registers.proofs.put_all.put_each.Goals as goal
 

@@ -2,7 +2,7 @@ use Rattle.std.proofs.Common.{◌+◌, take, drop, sym, ap, ◌∙◌, arith}
 use Rattle.registers.specs.Meaning.{size_of}
 use Rattle.registers.proofs.Members.{listed_as}
 use Rattle.registers.proofs.FactSteps.{facts-left}
-use Rattle.registers.proofs.ListLaws.{index-of_first, taken_all}
+use Rattle.registers.proofs.ListLaws.{index-of_first}
 use Rattle.sessions.specs.Steps.{excluding_all}
 use Rattle.sessions.proofs.Taking.{excluding-none, held_more, lacking_more, listed_more}
 use Rattle.sessions.proofs.change.count_held.Goals as goal
@@ -52,10 +52,3 @@ loop-k-preserved g c =
           ],
       omega (arith, c.loop-k.invariant.2, further),
     )
-
-pub returns : goal.returns
-returns g c =
-    let m = g.R.Register.meaning c.args.register.now in
-    let fs = g.L.FactList.listed c.args.takes.now in
-    ap (λ t. size_of (excluding_all m t) + c.loop-k.held) (sym (taken_all fs c.loop-k.k-iterator.count (c.loop-k.invariant.0 ∙ c.in-None.ensures.steps.0.0)))
-    ∙ c.loop-k.invariant.1

@@ -2,7 +2,7 @@ use Rattle.std.proofs.Common.{take, drop, sym, ap, ◌∙◌, arith}
 use Rattle.registers.specs.Meaning.{size_of, including_all}
 use Rattle.registers.proofs.Members.{listed_as}
 use Rattle.registers.proofs.FactSteps.{facts-left}
-use Rattle.registers.proofs.ListLaws.{including-none, new-more, held_more, listed-before-more, index-of_first, taken_all}
+use Rattle.registers.proofs.ListLaws.{including-none, new-more, held_more, listed-before-more, index-of_first}
 use Rattle.sessions.specs.Steps.{excluding_all}
 use Rattle.sessions.proofs.change.count_new.Goals as goal
 use Rattle.sessions.proofs.change.count_new.Goals.{else-not-stays-via-then-not-stays+else-not-is_before, else-not-stays-via-else-not-stays}
@@ -49,10 +49,3 @@ loop-k-preserved g c =
           ∙ ap (λ n. size_of (including_all m (take n fs))) (sym further),
       omega (arith, c.loop-k.invariant.2, further),
     )
-
-pub returns : goal.returns
-returns g c =
-    let m = excluding_all (g.R.Register.meaning c.args.register.now) (g.S.FactList.listed c.args.takes.now) in
-    let fs = g.L.FactList.listed c.args.puts.now in
-    c.loop-k.invariant.1
-    ∙ ap (λ t. size_of (including_all m t)) (taken_all fs c.loop-k.k-iterator.count (c.loop-k.invariant.0 ∙ c.in-None.ensures.steps.0.0))

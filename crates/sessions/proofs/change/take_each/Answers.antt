@@ -1,14 +1,8 @@
 use Rattle.std.proofs.Common.{drop, sym, ap, ◌∙◌}
 use Rattle.registers.proofs.Laws.{take-excluding}
-use Rattle.registers.proofs.FactSteps.{facts-left}
 use Rattle.sessions.specs.Steps.{excluding_all}
 use Rattle.sessions.proofs.Taking.{excluding-none, excluding-first}
 use Rattle.sessions.proofs.change.take_each.Goals as goal
-
-pub loop-fact-init : goal.loop-fact-init
-loop-fact-init g c =
-    ap (excluding_all (g.R.Register.meaning c.args.register.now))
-    (facts-left g.L.FactList.listed _ _ _ c.into_iter-fact-iterator.ensures.into_iter_gives c.facts-fact-items.ensures.list c.facts-fact-items.ensures.start)
 
 pub loop-fact-preserved : goal.loop-fact-preserved
 loop-fact-preserved g c =

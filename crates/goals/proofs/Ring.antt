@@ -181,6 +181,11 @@ pub equation-item : (V : Vocabulary) (s : Scope) (t : Term) (x : syntax.Operand)
 equation-item V s t x p q (Ok i) e h = h x e
 equation-item V s t x p q (Err y) e h = h x
 
+-- a fault behind a prefix is the fault of the whole
+pub prefix-fault : {V : Vocabulary} {s : Scope} {p q : Progress} {o : Opening} → PrefixRead V s p q o → (x : GoalFault) →
+    ((k : Place) → scope_at k ≡ o.scope → from V q (wants k) ≡ told x) → (k : Place) → scope_at k ≡ s → from V p (wants k) ≡ told x
+prefix-fault r x h k e = r.runs k e ∙ h (under r.written k) (ap (λ z. inside z r.written) e ∙ sym r.scope_is)
+
 prefix-size : (V : Vocabulary) (s : Scope) (y : syntax.Prefix) (n : ℕ) → closing_size (meant V s y n) + length (opened y) ≡ prefix_nodes y
 prefix-size V s (syntax.unary syntax.not) n = refl
 prefix-size V s (syntax.unary syntax.next) n = refl

@@ -1,6 +1,6 @@
 ghost use Rattle.std.specs.Prelude.{◌≡◌};
 ghost use Rattle.goals.specs.FaultNumbers.{frame_number, file_number};
-ghost use Rattle.goals.specs.declared.file_fault.FileFault.TheVariants.{Frame};
+ghost use Rattle.goals.specs.declared.file_fault.FileFault.TheVariants.{Frame, Job};
 
 use crate::goal_fault::GoalFault;
 use crate::job_fault::JobFault;
@@ -33,6 +33,13 @@ pub enum FileFault {
     Job(JobFault, usize),
 }
 
+// A fault of a job with the place in the file at which its goal text begins.
+#[derive(Clone, Copy, PartialEq, Eq, Debug)]
+pub struct PlacedFault {
+    pub fault: JobFault,
+    pub goal_at: usize,
+}
+
 impl FileFault {
     // By a match: `as` takes no enum whose variants hold something.
     pub fn number(self) -> u8
@@ -50,5 +57,13 @@ impl From<FrameFault> for FileFault {
 
     fn from(value: FrameFault) -> FileFault {
         FileFault::Frame(value)
+    }
+}
+
+impl From<PlacedFault> for FileFault {
+    ghost from_gives = { λ x y. y ≡ Job x.fault x.goal_at };
+
+    fn from(value: PlacedFault) -> FileFault {
+        FileFault::Job(value.fault, value.goal_at)
     }
 }

@@ -54,7 +54,14 @@ impl Job {
     }
 
     // The node of that number, if there is one.
-    pub fn node(&self, number: usize) -> Option<&Node>
+    pub fn node(&self, number: usize) -> Option<Node>
+        ensures { result ≡ slice_get (nodes_of self.now) number }
+    {
+        self.node_ref(number).copied()
+    }
+
+    // The node of that number where it lies, if there is one: what walks over a goal read, since a copy of each node costs time.
+    pub fn node_ref(&self, number: usize) -> Option<&Node>
         ensures { option_map (λ x. x.now) result ≡ slice_get (nodes_of self.now) number }
     {
         self.goal.nodes.get(number)

@@ -37,13 +37,17 @@ pub(crate) fn number_of(predicates: &[Predicate], name: &[u8]) -> Option<usize>
         .position(|predicate| predicate.letters() == name)
 }
 
-// The first predicate with a name; a predicate's number is a byte.
+// So many numbers of predicates a byte can tell.
+const MOST_NUMBERS: usize = 256;
+
+// The first predicate with a name; a predicate's number is a byte, so that none behind the first 256 is looked at.
 pub fn find(predicates: &[Predicate], name: &[u8]) -> Option<Sense>
     ensures { find_from 0 (take 256 predicates.now) name.now ≡ meaning result }
 {
-    let number = number_of(predicates, name)?;
+    let numbered = &predicates[..predicates.len().min(MOST_NUMBERS)];
+    let number = number_of(numbered, name)?;
     Some(Sense {
-        predicate: u8::try_from(number).ok()?,
-        places: predicates[number].places,
+        predicate: number as u8,
+        places: numbered[number].places,
     })
 }

@@ -1,6 +1,6 @@
 ghost use Rattle.goals.specs.JobReading.{FramedSays, BothSays, JobSays, FillSays};
 
-use crate::file_fault::FileFault;
+use crate::file_fault::{FileFault, PlacedFault};
 use crate::fill_fault::FillFault;
 use crate::frame::{FramedFile, read_frame};
 use crate::job::{Job, JobRoom};
@@ -38,7 +38,8 @@ fn read_both(bytes: &[u8], room: JobRoom) -> Result<FramedJob<'_>, FileFault>
 {
     let frame = read_frame(bytes)?;
     let file = FramedFile { bytes, frame };
-    let job = job_of(file, room).map_err(|fault| FileFault::Job(fault, frame.goal_at))?;
+    let goal_at = frame.goal_at;
+    let job = job_of(file, room).map_err(|fault| PlacedFault { fault, goal_at })?;
     Ok(FramedJob { file, job })
 }
 

@@ -97,6 +97,10 @@ over-same {limit} {t} {a} b w o =
     let f = distinct_fewer (rows t ++ all_parts a) (rows t ++ all_parts b) (in_more (rows t) a b w) in
     record { over = omega (arith, o.over) }
 
+-- more labels behind those that are too many
+pub over_first : {limit : ℕ} {t : List Part} {a : List Label} (b : List Label) → Over limit t a → Over limit t (a ++ b)
+over_first {limit} {t} {a} b o = over-same (a ++ b) (λ l m. in_left l a b m) o
+
 pub over-then : {limit : ℕ} {t u : List Part} {a : List Label} (b : List Label) → Grew t u a → Over limit u b → Over limit t (a ++ b)
 over-then {limit} {t} {u} {a} b g o =
     let f = distinct_fewer (rows u ++ all_parts b) (rows t ++ all_parts (a ++ b)) (λ l m.

@@ -89,6 +89,9 @@ module _ (N : ℕ) (s : Facts) (D : ℕ) (nodes : List Node) where
       is-composed : label_at t k ≡ composed (label_at t) p
       is-composed = label_of t order k kl ∙ ap (composed (label_at t)) here
 
+      pub part-early : before (length d) (moved to p) ≡ true
+      part-early = moved_early to k (length d) p in_place (λ x l. (done x l).0)
+
       pub part-progress-is : part_progress N s D nodes (λ x. label_at d (get_or to x 0)) p ≡ progressed N s D nodes (label_at t k)
       part-progress-is =
           progress-composed (label_at t) gave k p in_place (λ x l. (done x l).1) ∙ ap (progressed N s D nodes) (sym is-composed)

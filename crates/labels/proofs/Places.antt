@@ -1,14 +1,14 @@
 -- What the part at a place of a table tells of its label: whether it is TRUE or FALSE, and its "not".
-use Rattle.std.proofs.Common.{◌≡◌, ℕ, ◌<◌, false, List, length, get_or, sym, refl, ap, ◌∙◌}
+use Rattle.std.proofs.Common.{◌≡◌, ℕ, ◌<◌, true, false, List, length, get_or, sym, refl, ap, ◌∙◌}
 use mathlib.Core.Bool.{false≢true}
 use Rattle.labels.specs.declared.part.Part.{Part}
 use Rattle.labels.specs.declared.part.Part.TheVariants.{True, False, Pending, Not, And, Or}
 use Rattle.labels.specs.Labels.{Label, true_label, false_label, not_label}
 use Rattle.labels.specs.Same.{same}
 use Rattle.labels.specs.Joining.{negate}
-use Rattle.labels.specs.Table.{composed, label_at, InOrder}
-use Rattle.labels.proofs.Same.{same_true}
-use Rattle.labels.proofs.Rows.{label_of}
+use Rattle.labels.specs.Table.{composed, label_at, InOrder, NoTwins}
+use Rattle.labels.proofs.Same.{same_true, same_false}
+use Rattle.labels.proofs.Rows.{label_of, one_place}
 
 true_composed : (f : ℕ → Label) (p : Part) → ¬ (p ≡ True) → same (composed f p) true_label ≡ false
 unfolding same
@@ -68,3 +68,11 @@ module _ (table : List Part) (order : InOrder table) (i : ℕ) (lt : i < length 
 
   pub negate-at : ¬ (p ≡ True) → ¬ (p ≡ False) → ((x : ℕ) → ¬ (p ≡ Not x)) → negate (label_at table i) ≡ not_label (label_at table i)
   negate-at t u v = ap negate label-at ∙ (negate-composed (label_at table) p t u v ∙ ap not_label (sym label-at))
+
+-- at one place stands one label, at two places two
+module _ (table : List Part) (order : InOrder table) (twins : NoTwins table) (i j : ℕ) where
+  pub same_place : i ≡ j → same (label_at table i) (label_at table j) ≡ true
+  same_place e = same_true (label_at table i) (label_at table j) (ap (label_at table) e)
+
+  pub other_place : i < length table → j < length table → ¬ (i ≡ j) → same (label_at table i) (label_at table j) ≡ false
+  other_place il jl d = same_false (label_at table i) (label_at table j) (λ e. d (one_place table order twins i j il jl e))

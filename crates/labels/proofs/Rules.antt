@@ -1,5 +1,5 @@
 -- The rules of the simplified joinings, one by one, and the steps of a quantifier.
-use Rattle.std.proofs.Common.{◌≡◌, ℕ, suc, Bool, true, false, cond, ◌||◌, List, ◌∷◌, ◌++◌, sym, refl, ap, ◌∙◌}
+use Rattle.std.proofs.Common.{◌≡◌, ℕ, zero, suc, Bool, true, false, cond, ◌||◌, List, ◌∷◌, ◌++◌, sym, refl, ap, ◌∙◌}
 use Rattle.labels.specs.Labels.{Label, true_label, false_label, and_label, or_label}
 use Rattle.labels.specs.Same.{same}
 use Rattle.labels.specs.declared.connective.Connective.{Connective}
@@ -73,6 +73,10 @@ module _ (by : Connective) (q r : Label) where
 
 -- one id more of a quantifier: out of range, or in it
 module _ (join : Label → Label → Label) (start : Label) (range : ℕ → Bool) (item : ℕ → Label) where
+  pub joined-none : joined join start range item zero ≡ start
+  unfolding joined
+  joined-none = refl
+
   pub joined_skip : (n : ℕ) → range n ≡ false → joined join start range item (suc n) ≡ joined join start range item n
   unfolding joined
   joined_skip n e =

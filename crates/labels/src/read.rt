@@ -16,7 +16,7 @@ pub fn node_at(job: &Job, number: usize) -> &Node
     ensures value { result.now ≡ slice_index_or (nodes_of job.now) number True }
     ensures below { PartsBelow number result.now }
 {
-    job.node(number).unwrap_or(&Node::True)
+    job.node_ref(number).unwrap_or(&Node::True)
 }
 
 // Is the atom a fact of the register, under the binding?

@@ -14,7 +14,7 @@ pub struct Full;
 
 // At most LIMIT distinct parts, each behind its own; parts are found by chains, one for each bucket of a hash.
 // A Vec of parts and one of links, not one of pairs: the parts are then a list that every definition reads as it is. A link is of
-// two bytes, since all heads are emptied at each step.
+// four bytes, since all heads are emptied at each step.
 #[derive(Drop)]
 pub struct Table<const LIMIT: usize> {
     items: Vec<Part>,

@@ -6,8 +6,8 @@ use Rattle.registers.specs.declared.fact.Fact.{Fact}
 use Rattle.registers.specs.declared.refusal.Refusal.{Refusal}
 use Rattle.registers.specs.declared.refusal.Refusal.TheVariants.{OutOfBounds, Full}
 use Rattle.registers.specs.Facts.{Facts, one}
-use Rattle.registers.specs.Meaning.{Meaning, has, size_of, limit_of, allowed, including, excluding, put_answer, after_put, after_take}
-use Rattle.registers.proofs.Counts.{count-changed, count-put_le, count-put_ge, count-all, same_at}
+use Rattle.registers.specs.Meaning.{Meaning, has, size_of, limit_of, allowed, including, excluding, empty_of, put_answer, after_put, after_take}
+use Rattle.registers.proofs.Counts.{count-changed, count_none, count-put_le, count-put_ge, count-all, same_at}
 use Rattle.registers.proofs.Members.{by_points, changed_by, same_of}
 
 -- two meanings with the same facts and limit are equal
@@ -27,6 +27,10 @@ has-including m f g = refl
 pub has-excluding : (m : Meaning) (f g : Fact) → has (excluding m f) g ≡ cond (is f g) false (has m g)
 unfolding has excluding
 has-excluding m f g = refl
+
+pub has-empty : (n : ℕ) (f : Fact) → has (empty_of n) f ≡ false
+unfolding has empty_of
+has-empty n f = refl
 
 -- a change to what is already so changes nothing
 pub changed-same : (h : Facts) (f : Fact) (v : Bool) → h f.predicate f.first f.second ≡ v → changed_by h f v ≡ h
@@ -56,6 +60,10 @@ limit-including m f = refl
 pub limit-excluding : (m : Meaning) (f : Fact) → limit_of (excluding m f) ≡ limit_of m
 unfolding limit_of excluding
 limit-excluding m f = refl
+
+pub size-empty : (n : ℕ) → size_of (empty_of n) ≡ 0
+unfolding size_of empty_of
+size-empty n = count_none
 
 pub size-including : (m : Meaning) (f : Fact) → allowed f ≡ true → has m f ≡ false → size_of (including m f) ≡ size_of m + 1
 unfolding size_of has including

@@ -99,6 +99,14 @@ unfolding including_all
 size-all_le m [] = omega arith
 size-all_le m (f ∷ fs) = omega (arith, size-including_le m f, size-all_le (including m f) fs)
 
+-- with the first facts in there are no more than with all
+pub size-part_le : (m : Meaning) (fs : List Fact) (k : ℕ) → size_of (including_all m (take k fs)) ≤ size_of (including_all m fs)
+size-part_le m fs k =
+    let e : including_all m fs ≡ including_all (including_all m (take k fs)) (drop k fs)
+    = ap (including_all m) (sym (take-append-drop k fs)) ∙ including-append m (take k fs) (drop k fs) in
+    let s : size_of (including_all m fs) ≡ size_of (including_all (including_all m (take k fs)) (drop k fs)) = ap size_of e in
+    omega (arith, size-all_ge (including_all m (take k fs)) (drop k fs), s)
+
 or_swap : (s h l : Bool) → (cond s true h || l) ≡ (h || (s || l))
 or_swap true true l = refl
 or_swap true false l = refl
@@ -122,6 +130,15 @@ put-fits m f a l =
     (λ (h : has m f ≡ true). sym (put_held m f a h).after ∙ sym (including_held m f h))
     (λ (h : has m f ≡ false). sym (put-room m f a (omega (arith, size-including m f a h))).after)
     (cases_Bool (has m f))
+
+-- one more put, where there is room for all
+pub put-more : (m n : Meaning) (fs : List Fact) (k : ℕ) (f : Fact) → all_allowed fs ≡ true → size_of (including_all m fs) ≤ limit_of m → Some f ≡ slice_get fs k →
+    n ≡ including_all m (take k fs) → after_put n f ≡ including_all m (take (k + 1) fs)
+put-more m n fs k f a l e q =
+    let r = including-more m fs k f e in
+    let s : size_of (including_all m (take (k + 1) fs)) ≡ size_of (including (including_all m (take k fs)) f) = ap size_of r in
+    ap (λ t. after_put t f) q
+    ∙ (put-fits (including_all m (take k fs)) f (allowed_at fs k f e a) (omega (arith, size-part_le m fs (k + 1), limit-all m (take k fs), s)) ∙ sym r)
 
 -- the next one of those that are left is put, where there is room for all
 pub put-next : (m n : Meaning) (fs rest : List Fact) (f : Fact) → size_of (including_all m fs) ≤ limit_of m →
@@ -197,6 +214,10 @@ all_room m fs a l =
     refl
 
 -- finding a fact among the first ones of a list
+
+pub listed-none : (f : Fact) → listed_as [] f ≡ false
+unfolding listed
+listed-none f = refl
 
 pub listed-any : (f : Fact) (fs : List Fact) → list_any (is_record f) fs ≡ listed_as fs f
 unfolding listed

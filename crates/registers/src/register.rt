@@ -11,25 +11,31 @@ pub trait Register {
 
     // Is the fact held?
     fn holds(&self, fact: Fact) -> bool
-        ensures { result ≡ has (meaning self.now) fact };
+        ensures answer { result ≡ has (meaning self.now) fact }
+        ensures lawful { Lawful (meaning self.now) };
 
     // How many facts are held.
     fn size(&self) -> usize
-        ensures { result ≡ size_of (meaning self.now) };
+        ensures answer { result ≡ size_of (meaning self.now) }
+        ensures lawful { Lawful (meaning self.now) };
 
     // The most facts that may be held; it never changes.
     fn limit(&self) -> usize
-        ensures { result ≡ limit_of (meaning self.now) };
+        ensures answer { result ≡ limit_of (meaning self.now) }
+        ensures lawful { Lawful (meaning self.now) };
 
     // Puts the fact in, or refuses and changes nothing.
     fn put(&mut self, fact: Fact) -> Result<(), Refusal>
         ensures answer { result ≡ put_answer (meaning self.old) fact }
-        ensures after { meaning self.new ≡ after_put (meaning self.old) fact };
+        ensures after { meaning self.new ≡ after_put (meaning self.old) fact }
+        ensures lawful { Lawful (meaning self.old) };
 
     // Takes the fact out, if it is there.
     fn take(&mut self, fact: Fact)
-        ensures { meaning self.new ≡ after_take (meaning self.old) fact };
+        ensures after { meaning self.new ≡ after_take (meaning self.old) fact }
+        ensures lawful { Lawful (meaning self.old) };
 
-    // So of every register at any time: nothing out of bounds is held, and the size is at most the limit.
+    // So of every register at any time: nothing out of bounds is held, and the size is at most the limit. Each method says it too,
+    // since a law is not to be had through a `dyn Register`.
     ghost lawful: { (r : Self) → Lawful (meaning r) };
 }

@@ -65,14 +65,3 @@ impl LookRefusal {
         self as u8
     }
 }
-
-// A label refuses to be judged only where the job does not know it.
-impl From<LabelRefusal> for LookRefusal {
-    ghost use Rattle.sessions.specs.declared.refusal.LookRefusal.TheVariants.{OtherJob};
-
-    ghost from_gives = { λ _ y. y ≡ OtherJob };
-
-    fn from(_refusal: LabelRefusal) -> LookRefusal {
-        LookRefusal::OtherJob
-    }
-}

@@ -7,8 +7,8 @@ pub enum Judgement {
     OtherJob,
 }
 
-// What is left of a session that was closed, with the first step whose label was FALSE.
-#[derive(Clone, Copy, PartialEq, Eq, Debug)]
+// What is left of a session that was closed, with the first step whose label was FALSE. It moves, as the session did.
+#[derive(Drop, PartialEq, Eq, Debug)]
 pub struct Verdict {
     pub judgement: Judgement,
     pub broken: Option<u16>,

@@ -38,7 +38,11 @@ impl Session {
     ) -> Result<Look, LookRefusal>
         ensures { result ≡ look_answer job.now (world self.now (R.Register.meaning register.now)) }
     {
-        let idles = self.label.idles(workspace, job, register)?;
+        // A label refuses to be judged only where the job does not know it.
+        let idles = self
+            .label
+            .idles(workspace, job, register)
+            .map_err(|_| LookRefusal::OtherJob)?;
         Ok(Look {
             number: self.number,
             hour: self.hour,

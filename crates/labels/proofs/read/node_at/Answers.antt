@@ -5,5 +5,5 @@ use Rattle.labels.proofs.read.node_at.Goals as goal
 
 pub returns : goal.returns
 returns c =
-    let n = node-or_true (nodes_of c.args.job.now) c.args.number c.node.result c.unwrap_or.result _ (sound c.args.job.now).rising c.node.ensures c.unwrap_or.ensures refl in
+    let n = node-or_true (nodes_of c.args.job.now) c.args.number c.node_ref.result c.unwrap_or.result _ (sound c.args.job.now).rising c.node_ref.ensures c.unwrap_or.ensures refl in
     record { value = n.0; below = n.1 }

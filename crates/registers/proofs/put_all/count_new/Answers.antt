@@ -26,7 +26,7 @@ loop-k-preserved-then-not-is_before g c =
     let further = c.in-Some.ensures.steps.2 in
     let absent = ap (λ n. listed_as (take n fs) c.in-Some.fact) (sym c.in-Some.ensures.steps.1) ∙ sym c.if-not-is_before.ensures in (
       ap (λ n. drop n fs) further ∙ first.1,
-      new-more m fs k c.loop-k.new c.in-Some.fact c.requires first.0 c.loop-k.invariant.1 (sym c.if-not-holds.ensures) absent
+      new-more m fs k c.loop-k.new c.in-Some.fact c.requires first.0 c.loop-k.invariant.1 (sym c.if-not-holds.ensures.answer) absent
           ∙ ap (λ n. size_of (including_all m (take n fs))) (sym further),
       omega (arith, c.loop-k.invariant.2, further),
     )
@@ -43,7 +43,7 @@ loop-k-preserved g c =
         | else-not-holds-via-then-not-holds+else-not-is_before w ↦
             listed-before-more m fs k c.loop-k.new c.in-Some.fact first.0 c.loop-k.invariant.1
             (ap (λ n. listed_as (take n fs) c.in-Some.fact) (sym c.in-Some.ensures.steps.1) ∙ sym w.if-not-is_before.ensures)
-        | else-not-holds-via-else-not-holds w ↦ held_more m fs k c.loop-k.new c.in-Some.fact first.0 c.loop-k.invariant.1 (sym w.if-not-holds.ensures)
+        | else-not-holds-via-else-not-holds w ↦ held_more m fs k c.loop-k.new c.in-Some.fact first.0 c.loop-k.invariant.1 (sym w.if-not-holds.ensures.answer)
       ]
           ∙ ap (λ n. size_of (including_all m (take n fs))) (sym further),
       omega (arith, c.loop-k.invariant.2, further),

@@ -9,7 +9,7 @@ pub returns-then-limit-ge-ALL_FACTS : goal.returns-then-limit-ge-ALL_FACTS
 returns-then-limit-ge-ALL_FACTS g c =
     let m = g.R.Register.meaning c.args.register.now in
     let fs = g.L.FactList.listed c.args.list.now in
-    sym (le-leb _ _ (omega (arith, size-all (including_all m fs), c.limit-limit.ensures, c.if-limit-ge-ALL_FACTS.true)))
+    sym (le-leb _ _ (omega (arith, size-all (including_all m fs), c.limit-limit.ensures.answer, c.if-limit-ge-ALL_FACTS.true)))
 
 pub returns-then-count-free : goal.returns-then-count-free
 returns-then-count-free g c =
@@ -17,4 +17,4 @@ returns-then-count-free g c =
     let fs = g.L.FactList.listed c.args.list.now in
     let w = (g.met.R.Register.lawful c.args.register.now).within in
     le-leb _ _ c.if-count-free.true
-    ∙ sym (le-leb _ _ (omega (arith, size-all_le m fs, c.if-count-free.true, c.count.ensures, c.limit-limit.ensures, c.size.ensures, w)))
+    ∙ sym (le-leb _ _ (omega (arith, size-all_le m fs, c.if-count-free.true, c.count.ensures, c.limit-limit.ensures.answer, c.size.ensures.answer, w)))

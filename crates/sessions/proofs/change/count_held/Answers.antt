@@ -27,7 +27,7 @@ loop-k-preserved-then-not-is_before g c =
     let first = index-of_first fs k c.in-Some.fact _ (c.loop-k.invariant.0 ∙ c.in-Some.ensures.steps.0) in
     let further = c.in-Some.ensures.steps.2 in
     let absent = ap (λ n. listed_as (take n fs) c.in-Some.fact) (sym c.in-Some.ensures.steps.1) ∙ sym c.if-not-is_before.ensures in
-    let held = sym c.if-holds.ensures in (
+    let held = sym c.if-holds.ensures.answer in (
       ap (λ n. drop n fs) further ∙ first.1,
       ap (λ n. size_of (excluding_all m (take n fs)) + (c.loop-k.held + 1)) further
           ∙ held_more m fs k c.loop-k.held c.in-Some.fact first.0 ((g.met.R.Register.lawful c.args.register.now).bounded c.in-Some.fact held)
@@ -48,7 +48,7 @@ loop-k-preserved g c =
             | else-holds-via-then-holds+else-not-is_before w ↦
                 listed_more m fs k c.loop-k.held c.in-Some.fact first.0 c.loop-k.invariant.1
                 (ap (λ n. listed_as (take n fs) c.in-Some.fact) (sym c.in-Some.ensures.steps.1) ∙ sym w.if-not-is_before.ensures)
-            | else-holds-via-else-holds w ↦ lacking_more m fs k c.loop-k.held c.in-Some.fact first.0 c.loop-k.invariant.1 (sym w.if-holds.ensures)
+            | else-holds-via-else-holds w ↦ lacking_more m fs k c.loop-k.held c.in-Some.fact first.0 c.loop-k.invariant.1 (sym w.if-holds.ensures.answer)
           ],
       omega (arith, c.loop-k.invariant.2, further),
     )

@@ -8,7 +8,7 @@ pub loop-fact-preserved : goal.loop-fact-preserved
 loop-fact-preserved g c =
     let n = g.R.Register.meaning c.loop-fact.register in
     let rest = drop c.next.new.self.next (g.L.FactList.listed c.next.new.self.list.now) in
-    ap (λ t. excluding_all t rest) (c.take.ensures ∙ sym (take-excluding n c.in-Some.fact))
+    ap (λ t. excluding_all t rest) (c.take.ensures.after ∙ sym (take-excluding n c.in-Some.fact))
     ∙ (sym (excluding-first n c.in-Some.fact rest) ∙ (sym (ap (excluding_all n) c.in-Some.ensures.steps) ∙ c.loop-fact.invariant))
 
 pub returns : goal.returns

@@ -1,5 +1,6 @@
 use Rattle.std.proofs.Common.{◌≡◌, true, sym, ◌∙◌, arith}
 use Rattle.registers.specs.Meaning.{allowed}
+use Rattle.registers.specs.Lawfulness.{grid_lawful}
 use Rattle.registers.proofs.Laws.{take_absent, take-excluding}
 use Rattle.registers.proofs.GridSteps.{bounds-parts, grid_has, grid_inside, grid_place, grid_at, grid_fewer}
 use Rattle.registers.proofs.grid.GridRegister.take.Goals as goal
@@ -36,8 +37,8 @@ returns-then-has c =
     let m = grid_fewer _ c.args.self.now.limit c.args.fact c.row_of-at.result _ c.without_bit-row.result
     (grid_inside _ c.args.fact (sym c.if-has.ensures)) c.row_of-at.ensures (sym c.args.self.now.rows.ok.0 ∙ c.args.self.now.whole)
     c.index.ensures c.args.self.now.few c.without_bit-row.ensures in
-    m.after ∙ take-excluding _ c.args.fact
+    record { after = m.after ∙ take-excluding _ c.args.fact; lawful = grid_lawful _ _ c.args.self.now.few }
 
 pub returns-else-has : goal.returns-else-has
 returns-else-has c =
-    take_absent _ c.args.fact (sym (grid_has _ _ c.args.fact) ∙ sym c.if-has.ensures)
+    record { after = take_absent _ c.args.fact (sym (grid_has _ _ c.args.fact) ∙ sym c.if-has.ensures); lawful = grid_lawful _ _ c.args.self.now.few }

@@ -74,14 +74,11 @@ stopped m (d ∷ ds) =
 
 -- one digit more, as the code adds it
 abbrev pub digit : ℕ → ℕ → ℕ
-digit n d = min n 65535 * 10 + (d - 48)
+digit n d = min (n * 10 + (d - 48)) 65535
 
-folded : (n : ℕ) (ds : List ℕ) → min (fold digit n ds) 65535 ≡ capped n ds
-folded n [] = omega arith
-folded n (d ∷ ds) =
-    folded (digit n d) ds ∙ stopped (digit n d) ds
-    ∙ ap (λ k. capped k ds) (let e : min (digit n d) 65535 ≡ min (n * 10 + (d - 48)) 65535 = omega arith in e)
-    ∙ sym (stopped (n * 10 + (d - 48)) ds)
+folded : (n : ℕ) (ds : List ℕ) → n ≤ 65535 → fold digit n ds ≡ capped n ds
+folded n [] h = omega arith
+folded n (d ∷ ds) h = folded (digit n d) ds (omega arith) ∙ sym (stopped (n * 10 + (d - 48)) ds)
 
-pub digits_folded : (ds : List ℕ) → min (fold digit 0 ds) 65535 ≡ capped 0 ds
-digits_folded ds = folded 0 ds
+pub digits_folded : (ds : List ℕ) → fold digit 0 ds ≡ capped 0 ds
+digits_folded ds = folded 0 ds (omega arith)
